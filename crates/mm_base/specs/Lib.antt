@@ -1,1 +1,10 @@
+pub mod Chain
+pub mod Entry
+pub mod Guid
+pub mod Machine
+pub mod Numbers
+pub mod Prepared
+pub mod Receipt
+pub mod Records
+pub mod Replay
 pub mod Room

@@ -1,10 +1,35 @@
 //! Plain types that the crates above share: identifiers, records, rooms and lists, and what a machine is.
 #![tactic(auto)]
 
+mod access;
+mod cells;
+mod entries;
+mod entry;
+mod guid;
+mod handler;
+mod invocation;
 mod list;
+mod machine;
 mod no_memory;
+mod numbers;
+mod prepared;
+mod receipt;
 mod room;
+pub mod status;
+mod text;
 
+pub use access::{Denial, Kind, Right, Why};
+pub use cells::{CellWrite, Opening, Saved};
+pub use entries::Entries;
+pub use entry::{Entry, Outcome, Request, Shape};
+pub use guid::{GUID_BYTES, GUID_TEXT_BYTES, Guid, guid_at};
+pub use handler::{Handler, HandlerBody};
+pub use invocation::{Ended, FaultKind, Invocation, MOST_DENIALS, MOST_WRITES, Records};
 pub use list::{Bytes, List};
+pub use machine::Machine;
 pub use no_memory::NoMemory;
+pub use numbers::{WORD_BYTES, le_at, word_at};
+pub use prepared::{MOST_BYTES, OutcomeRooms, Prepared};
+pub use receipt::Receipt;
 pub use room::Room;
+pub use text::TextKind;

@@ -1,0 +1,14 @@
+-- GUIDs and their text.
+use Rattle.std.specs.Prelude.{ℕ, List, Option, option_map}
+use Rattle.uuid.specs.Text.{parsed, hyphenated_text, lower}
+use Rattle.uuid.specs.Parts.{swap_fields}
+use Rattle.mm_base.specs.declared.guid.Guid.{Guid}
+
+-- The GUID that a text spells, in any form that RFC 9562's readers know. A GUID is stored with its first three
+-- fields low byte first, and written with the high byte first.
+abbrev pub guid_from_text : List ℕ → Option Guid
+guid_from_text text = option_map (λ bytes. record { 0 = swap_fields bytes }) (parsed text)
+
+-- the text of a GUID: 36 bytes, lower case, with hyphens
+abbrev pub guid_text : Guid → List ℕ
+guid_text guid = hyphenated_text lower (swap_fields guid.0)

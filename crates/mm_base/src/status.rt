@@ -1,0 +1,17 @@
+//! Status codes of the UEFI and PI specifications, as they stand in a lane's status word.
+
+/// The top bit marks an error.
+pub const SUCCESS: u64 = 0;
+
+pub const INVALID_PARAMETER: u64 = 0x8000_0000_0000_0002;
+
+pub const UNSUPPORTED: u64 = 0x8000_0000_0000_0003;
+
+pub const NOT_FOUND: u64 = 0x8000_0000_0000_000e;
+
+/// An interrupt is pending. The number is this project's own, as are the two below.
+pub const INTERRUPT_PENDING: u64 = 0xa000_0000_0000_0000;
+
+pub const WARN_INTERRUPT_SOURCE_PENDING: u64 = 0x2000_0000_0000_0000;
+
+pub const WARN_INTERRUPT_SOURCE_QUIESCED: u64 = 0x2000_0000_0000_0001;
