@@ -1,5 +1,6 @@
 -- GUIDs and their text.
-use Rattle.std.specs.Prelude.{ℕ, List, Option, option_map}
+use Rattle.std.specs.Prelude.{ℕ, List, Option, option_map, Bool}
+use Rattle.std.specs.Str.{bytes_eq}
 use Rattle.uuid.specs.Text.{parsed, hyphenated_text, lower}
 use Rattle.uuid.specs.Parts.{swap_fields}
 use Rattle.mm_base.specs.declared.guid.Guid.{Guid}
@@ -12,3 +13,7 @@ guid_from_text text = option_map (λ bytes. record { 0 = swap_fields bytes }) (p
 -- the text of a GUID: 36 bytes, lower case, with hyphens
 abbrev pub guid_text : Guid → List ℕ
 guid_text guid = hyphenated_text lower (swap_fields guid.0)
+
+-- whether two GUIDs have the same bytes
+abbrev pub same_guid : Guid → Guid → Bool
+same_guid a b = bytes_eq a.0 b.0
