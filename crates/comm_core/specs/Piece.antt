@@ -1,0 +1,87 @@
+-- A piece: what the processor of a lane does for one ring, from its load of the length word to its store of the status.
+--
+-- A lane has a length word (word 0), a status word (word 1) and data words from word 2 on; data word j holds the bytes
+-- 8*j to 8*j + 7 of the communicate buffer, the lowest byte first. Its capacity is 8 bytes a data word.
+use Rattle.std.specs.Prelude.{ℕ, zero, suc, ◌+◌, ◌*◌, if◌then◌else◌, ◌&&◌, nat_le, List, [], ◌∷◌, ◌++◌, length, take, drop, Option, Some, None, unwrap_or, slice_get, option_map}
+use Rattle.mm_base.specs.Numbers.{words_for, words_of_bytes, bytes_of_words}
+use Rattle.mm_base.specs.Receipt.{told}
+use Rattle.mm_base.specs.declared.cells.Saved.{Saved}
+use Rattle.mm_base.specs.declared.entry.Outcome.{Outcome}
+use Rattle.mm_base.specs.declared.entry.Request.{Request}
+use Rattle.mm_base.specs.declared.receipt.Receipt.{Receipt}
+use Rattle.comm_core.specs.declared.action.Action.{Action}
+use Rattle.comm_core.specs.declared.action.Action.TheVariants.{Rest, Load, Turn, Store}
+use Rattle.comm_core.specs.declared.trace.Trace.{Trace}
+use Rattle.comm_core.specs.declared.trace.Trace.TheVariants.{Loaded, Stored, Poked, Turned}
+
+-- How many data words a request of this length has: those that hold so many bytes, where the length is at least a
+-- header's and at most the capacity; else none.
+abbrev pub needed : ℕ → ℕ → ℕ
+needed words length = if nat_le 24 length && nat_le length (8 * words) then words_for length else 0
+
+-- loads of so many words from this one on, rising
+abbrev pub loads : ℕ → ℕ → List Action
+loads word zero = []
+loads word (suc n) = Load word ∷ loads (word + 1) n
+
+-- stores of these values to the words from this one on, rising
+abbrev pub stores : ℕ → List ℕ → List Action
+stores word [] = []
+stores word (value ∷ values) = Store word value ∷ stores (word + 1) values
+
+-- The stores that answer: where handlers ran, the reply's words (the last one filled with zeros) and then the reply's
+-- length; and in every case the status, last.
+abbrev pub answer : Receipt → List Action
+answer receipt =
+    (if receipt.dispatched then stores 2 (words_of_bytes receipt.bytes) ++ Store 0 (length receipt.bytes) ∷ [] else [])
+    ++ Store 1 receipt.status ∷ []
+
+-- the stores that are known by the receipt of the turn, if there was one
+abbrev pub answer_if : Option Receipt → List Action
+answer_if None = []
+answer_if (Some receipt) = answer receipt
+
+-- A whole piece, in order: one load of the length word, which gives the length; one load of each data word that the
+-- request needs; one turn; and the stores of its receipt.
+abbrev pub whole : ℕ → ℕ → Option Receipt → List Action
+whole words length receipt = Load 0 ∷ loads 2 (needed words length) ++ Turn ∷ answer_if receipt
+
+-- the values that the loads of a piece gave, in order
+abbrev pub loaded : List Trace → List ℕ
+loaded [] = []
+loaded (Loaded lane word value ∷ piece) = value ∷ loaded piece
+loaded (Stored lane word value ∷ piece) = loaded piece
+loaded (Poked lane word value ∷ piece) = loaded piece
+loaded (Turned lane position ∷ piece) = loaded piece
+
+-- the value of the length word as it was loaded, or 0
+abbrev pub length_in : List Trace → ℕ
+length_in piece = unwrap_or (slice_get (loaded piece) 0) 0
+
+-- the position of a piece's turn, if it came
+abbrev pub turn_in : List Trace → Option ℕ
+turn_in [] = None
+turn_in (Loaded lane word value ∷ piece) = turn_in piece
+turn_in (Stored lane word value ∷ piece) = turn_in piece
+turn_in (Poked lane word value ∷ piece) = turn_in piece
+turn_in (Turned lane position ∷ piece) = Some position
+
+-- the receipt of a piece's turn, where these are the outcomes so far
+abbrev pub receipt_at : List Outcome → Option ℕ → Option Receipt
+receipt_at outcomes None = None
+receipt_at outcomes (Some position) = option_map (told position) (slice_get outcomes position)
+
+-- What a piece has next: what a whole piece has behind as many actions as this one has records.
+abbrev pub next_in : ℕ → List Outcome → List Trace → Action
+next_in words outcomes piece =
+    unwrap_or (slice_get (whole words (length_in piece) (receipt_at outcomes (turn_in piece))) (length piece)) Rest
+
+-- The request of a piece: the length as it was loaded, the first so many bytes of the data words as they were loaded,
+-- and the registers that were saved at its ring.
+abbrev pub request_in : ℕ → Saved → List Trace → Request
+request_in lane saved piece = record {
+  lane = lane;
+  length = length_in piece;
+  bytes = take (length_in piece) (bytes_of_words (drop 1 (loaded piece)));
+  saved = saved;
+}
