@@ -1,0 +1,75 @@
+//! Reading a source to its end.
+ghost use Rattle.std.specs.Prelude.{◌≡◌, ◌≤◌, length, IfOk, OnOk, IsErrOf};
+ghost use Rattle.mm_io.specs.declared.reading.ReadEnd.TheVariants.{Failed as ReadFailed, NoMemory as OutOfMemory};
+ghost use Rattle.mm_io.specs.Causes.{Rose};
+ghost use Rattle.mm_io.specs.Streams.{GivesAll, GivesSome, GivesMoreThan, HasMoreThan};
+
+use crate::{Failed, Source};
+use mm_base::{Bytes, List, NoMemory};
+use std::alloc::{AllocError, Global};
+
+// The most bytes that one read asks for.
+const BLOCK: usize = 4_096;
+
+/// Why not all was read.
+#[derive(Clone, Copy, Debug, PartialEq, Eq)]
+pub enum ReadEnd {
+    /// A read met a fault.
+    Failed,
+    /// More bytes came than the limit.
+    TooLong,
+    /// Memory was refused.
+    NoMemory,
+}
+
+impl From<Failed> for ReadEnd {
+    ghost from_gives = { λ _ e. e ≡ ReadFailed };
+
+    fn from(_: Failed) -> Self {
+        ReadEnd::Failed
+    }
+}
+
+impl From<NoMemory> for ReadEnd {
+    ghost from_gives = { λ _ e. e ≡ OutOfMemory };
+
+    fn from(_: NoMemory) -> Self {
+        ReadEnd::NoMemory
+    }
+}
+
+impl From<AllocError> for ReadEnd {
+    ghost from_gives = { λ _ e. e ≡ OutOfMemory };
+
+    fn from(_: AllocError) -> Self {
+        ReadEnd::NoMemory
+    }
+}
+
+/// All bytes that the source has left, at most `limit` of them. It reads until a read gives nothing.
+/// `Failed` is answered only where a read failed, and `TooLong` as soon as more than `limit` bytes came.
+/// It takes a block of 4,096 bytes and the memory of the answer; the work is linear in the bytes.
+pub fn read_all<S: Source>(alloc: Global, source: &mut S, limit: u32) -> Result<Bytes, ReadEnd>
+    ensures ok { IfOk result (GivesAll (S.left source.old) (S.left source.new) limit) }
+    ensures failed { IsErrOf result ReadEnd.Failed → Rose (S.fault_count source.old) (S.fault_count source.new) }
+    ensures too_long { IsErrOf result ReadEnd.TooLong → GivesMoreThan limit (S.left source.old) (S.left source.new) }
+    ensures over { HasMoreThan limit (S.left source.old) → OnOk result ⊥ }
+    ensures given { GivesSome (S.left source.old) (S.left source.new) }
+    ensures later { S.fault_count source.old ≤ S.fault_count source.new }
+{
+    let mut memory = vec![in alloc; 0u8; BLOCK]?;
+    let block = memory.as_mut_slice();
+    let mut bytes = List::new(alloc);
+    let most = limit as usize;
+    loop {
+        let count = source.read(block)?;
+        if count == 0 {
+            return Ok(bytes);
+        }
+        if count > most - bytes.len() {
+            return Err(ReadEnd::TooLong);
+        }
+        let (came, _) = block.split_at(count);
+        bytes.extend(came)?;
+    }
+}
