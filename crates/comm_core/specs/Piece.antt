@@ -2,7 +2,7 @@
 --
 -- A lane has a length word (word 0), a status word (word 1) and data words from word 2 on; data word j holds the bytes
 -- 8*j to 8*j + 7 of the communicate buffer, the lowest byte first. Its capacity is 8 bytes a data word.
-use Rattle.std.specs.Prelude.{ℕ, zero, suc, ◌+◌, ◌*◌, if◌then◌else◌, ◌&&◌, nat_le, List, [], ◌∷◌, ◌++◌, length, take, drop, Option, Some, None, unwrap_or, slice_get, option_map}
+use Rattle.std.specs.Prelude.{ℕ, zero, suc, ◌+◌, ◌*◌, if◌then◌else◌, ◌&&◌, nat_le, List, [], ◌∷◌, ◌++◌, length, take, drop, map, Option, Some, None, unwrap_or, slice_get, option_map}
 use Rattle.mm_base.specs.Numbers.{words_for, words_of_bytes, bytes_of_words}
 use Rattle.mm_base.specs.Receipt.{told}
 use Rattle.mm_base.specs.declared.cells.Saved.{Saved}
@@ -24,27 +24,31 @@ abbrev pub loads : ℕ → ℕ → List Action
 loads word zero = []
 loads word (suc n) = Load word ∷ loads (word + 1) n
 
--- stores of these values to the words from this one on, rising
-abbrev pub stores : ℕ → List ℕ → List Action
-stores word [] = []
-stores word (value ∷ values) = Store word value ∷ stores (word + 1) values
+-- a store, as the word and the value
+abbrev pub store : ℕ × ℕ → Action
+store to = Store to.0 to.1
+
+-- these values for the words from this one on, rising
+abbrev pub from_word : ℕ → List ℕ → List (ℕ × ℕ)
+from_word word [] = []
+from_word word (value ∷ values) = (word, value) ∷ from_word (word + 1) values
 
 -- The stores that answer: where handlers ran, the reply's words (the last one filled with zeros) and then the reply's
 -- length; and in every case the status, last.
-abbrev pub answer : Receipt → List Action
+abbrev pub answer : Receipt → List (ℕ × ℕ)
 answer receipt =
-    (if receipt.dispatched then stores 2 (words_of_bytes receipt.bytes) ++ Store 0 (length receipt.bytes) ∷ [] else [])
-    ++ Store 1 receipt.status ∷ []
+    (if receipt.dispatched then from_word 2 (words_of_bytes receipt.bytes) ++ (0, length receipt.bytes) ∷ [] else [])
+    ++ (1, receipt.status) ∷ []
 
 -- the stores that are known by the receipt of the turn, if there was one
-abbrev pub answer_if : Option Receipt → List Action
+abbrev pub answer_if : Option Receipt → List (ℕ × ℕ)
 answer_if None = []
 answer_if (Some receipt) = answer receipt
 
 -- A whole piece, in order: one load of the length word, which gives the length; one load of each data word that the
 -- request needs; one turn; and the stores of its receipt.
 abbrev pub whole : ℕ → ℕ → Option Receipt → List Action
-whole words length receipt = Load 0 ∷ loads 2 (needed words length) ++ Turn ∷ answer_if receipt
+whole words length receipt = Load 0 ∷ (loads 2 (needed words length) ++ Turn ∷ map store (answer_if receipt))
 
 -- the values that the loads of a piece gave, in order
 abbrev pub loaded : List Trace → List ℕ

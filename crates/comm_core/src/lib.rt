@@ -2,9 +2,14 @@
 #![tactic(auto)]
 
 mod action;
+mod answer;
 mod event;
+mod processor;
 mod trace;
+mod world;
 
 pub use action::Action;
 pub use event::Event;
+pub use processor::{Fed, HEADER_BYTES, LEAST_WORDS, MOST_WORDS, Processor};
 pub use trace::Trace;
+pub use world::World;

@@ -1,0 +1,220 @@
+//! The processor of a lane: it captures a request word by word, and stores the answer word by word.
+ghost use Rattle.std.specs.Prelude.{◌≡◌, ◌≤◌, ◌<◌, ◌+◌, ◌*◌, nat_lt, if◌then◌else◌, length};
+ghost use Rattle.comm_core.specs.Piece.{needed as needed_words};
+ghost use Rattle.comm_core.specs.Processor.{next_action, is_resting as rests_at, to_come, behind_fed, behind_load as after_load, behind_store as after_store, sealed, IsSound, MayFeed, MayFeedSoundly, MayLoadSoundly, MayStoreSoundly, MayTake};
+
+use crate::Action;
+use crate::answer::{answer_at, answer_length};
+use mm_base::{Prepared, Receipt, Saved};
+use std::marker::Model;
+use std::mem;
+
+/// The least length of a request: that of a communicate header.
+pub const HEADER_BYTES: u64 = 24;
+
+/// The least and the most data words of a lane.
+pub const LEAST_WORDS: u32 = 3;
+
+pub const MOST_WORDS: u32 = 512;
+
+/// What a processor is fed, in answer to its next action.
+#[derive(Drop)]
+pub enum Fed {
+    /// It was rung, with memory for the entry and the saved registers.
+    Ring(Prepared, Saved),
+    /// The word that it loads has this value.
+    Loaded(u64),
+    /// The core answered its request.
+    Answered(Receipt),
+    /// The word that it stores is stored.
+    Stored,
+}
+
+/// Where a processor stands.
+#[derive(Drop)]
+enum Stage {
+    Resting,
+    Rung(Prepared, Saved),
+    /// The length was loaded, and so many data words.
+    Loading(Prepared, Saved, u64, u32),
+    /// The request was taken, with so many bytes.
+    Turning(usize),
+    /// So many words of the answer were stored.
+    Storing(Receipt, u32),
+}
+
+/// The processor of one lane.
+#[derive(Drop)]
+pub struct Processor {
+    lane: u32,
+    words: u32,
+    stage: Stage,
+}
+
+impl Model for Processor {
+    ghost use Rattle.std.specs.Prelude.{◌≤◌};
+    ghost use Rattle.comm_core.specs.Processor.{ProcessorState, IsSound};
+
+    ghost Value = { ProcessorState };
+
+    ghost view = { λ p. record { lane = p.lane; words = p.words; stage = p.stage } };
+
+    ghost invariant = { λ p. (3 ≤ p.words) × (p.words ≤ 512) × IsSound p.words p.stage };
+}
+
+impl Processor {
+    /// A processor at rest, for this lane of so many data words.
+    pub fn new(lane: u32, words: u32) -> Processor
+        requires low { 3 ≤ words }
+        requires high { words ≤ 512 }
+        ensures { result ≡ record { lane = lane; words = words; stage = Stage.Resting } }
+    {
+        Processor {
+            lane,
+            words,
+            stage: Stage::Resting,
+        }
+    }
+
+    /// What it does next.
+    pub fn next(&self) -> Action
+        ensures next { result ≡ next_action self.now.words self.now.stage }
+        ensures sound { IsSound self.now.words self.now.stage }
+    {
+        match &self.stage {
+            Stage::Resting => Action::Rest,
+            Stage::Rung(_, _) => Action::Load(0),
+            Stage::Loading(_, _, length, loaded) => next_load(self.words, *length, *loaded),
+            Stage::Turning(_) => Action::Turn,
+            Stage::Storing(receipt, stored) => answer_at(receipt, *stored),
+        }
+    }
+
+    /// Whether it rests.
+    pub fn is_resting(&self) -> bool
+        ensures { result ≡ rests_at self.now.stage }
+    {
+        matches!(self.stage, Stage::Resting)
+    }
+
+    /// How many records its ring may still make.
+    pub fn records_to_come(&self) -> u32
+        ensures { result ≡ to_come self.now.words self.now.stage }
+    {
+        let words = self.words;
+        match &self.stage {
+            Stage::Resting => 0,
+            Stage::Rung(_, _) => 2 * words + 4,
+            Stage::Loading(_, _, _, loaded) => words - *loaded + words + 3,
+            Stage::Turning(_) => words + 2,
+            Stage::Storing(receipt, stored) => answer_length(receipt) - *stored,
+        }
+    }
+
+    /// Goes on by what it is fed, in answer to its next action. It takes no memory.
+    pub fn feed(&mut self, fed: Fed)
+        requires { MayFeed self.old.words self.old.stage fed }
+        ensures { self.new ≡ record self.old { stage = behind_fed self.old.stage fed } }
+    {
+        let stage = mem::replace(&mut self.stage, Stage::Resting);
+        put(&mut self.stage, stage.behind(fed));
+    }
+
+    /// Hands out the memory that the ring fed, with the request that was captured in it.
+    pub fn take_request(&mut self) -> Prepared
+        requires { MayTake self.old.words self.old.stage }
+        ensures taken { result ≡ sealed self.old.lane self.old.stage result }
+        ensures fits { length result.entry.request.bytes ≤ 8 * self.old.words }
+        ensures stage { (bytes : _) × (self.new ≡ record self.old { stage = Stage.Turning bytes }) × (bytes ≡ length result.entry.request.bytes) }
+    {
+        match mem::replace(&mut self.stage, Stage::Resting) {
+            Stage::Loading(mut prepared, saved, length, _) => {
+                prepared.seal(self.lane, length, length as usize, saved);
+                let bytes = prepared.entry().request.bytes.len();
+                put(&mut self.stage, Stage::Turning(bytes));
+                prepared
+            }
+            _ => unreachable!(),
+        }
+    }
+}
+
+/// Puts a stage in place of another one.
+fn put(place: &mut Stage, stage: Stage)
+    ensures { place.new ≡ stage }
+{
+    *place = stage;
+}
+
+impl Stage {
+    /// The stage behind what is fed.
+    fn behind(self, fed: Fed) -> Stage
+        requires { MayFeedSoundly self fed }
+        ensures { result ≡ behind_fed self fed }
+    {
+        match fed {
+            Fed::Ring(prepared, saved) => Stage::Rung(prepared, saved),
+            Fed::Loaded(value) => self.behind_load(value),
+            Fed::Answered(receipt) => Stage::Storing(receipt, 0),
+            Fed::Stored => self.behind_store(),
+        }
+    }
+
+    /// The stage behind a load of this value.
+    fn behind_load(self, value: u64) -> Stage
+        requires { MayLoadSoundly self }
+        ensures { result ≡ after_load self value }
+    {
+        match self {
+            Stage::Rung(prepared, saved) => Stage::Loading(prepared, saved, value, 0),
+            Stage::Loading(mut prepared, saved, length, loaded) => {
+                prepared.capture(&value.to_le_bytes());
+                Stage::Loading(prepared, saved, length, loaded + 1)
+            }
+            other => other,
+        }
+    }
+
+    /// The stage behind a store.
+    fn behind_store(self) -> Stage
+        requires { MayStoreSoundly self }
+        ensures { result ≡ after_store self }
+    {
+        match self {
+            Stage::Storing(receipt, stored) => {
+                if stored + 1 == answer_length(&receipt) {
+                    Stage::Resting
+                } else {
+                    Stage::Storing(receipt, stored + 1)
+                }
+            }
+            other => other,
+        }
+    }
+}
+
+/// What a capture has next: a load, or its turn.
+fn next_load(words: u32, length: u64, loaded: u32) -> Action
+    requires high { words ≤ 512 }
+    requires within { loaded ≤ needed_words words length }
+    ensures { result ≡ (if nat_lt loaded (needed_words words length) then Action.Load (2 + loaded) else Action.Turn) }
+{
+    if loaded < needed(words, length) {
+        Action::Load(2 + loaded)
+    } else {
+        Action::Turn
+    }
+}
+
+/// How many data words a request of this length has, in a lane of so many.
+fn needed(words: u32, length: u64) -> u32
+    requires { words ≤ 512 }
+    ensures value { result ≡ needed_words words length }
+    ensures within { result ≤ words }
+{
+    if HEADER_BYTES <= length && length <= 8 * u64::from(words) {
+        length.div_ceil(8) as u32
+    } else {
+        0
+    }
+}
