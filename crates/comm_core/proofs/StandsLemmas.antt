@@ -1,5 +1,5 @@
 -- A world goes on standing: each action and each event takes it where the past goes.
-use Rattle.std.proofs.Common.{◌≡◌, ◌<◌, ℕ, zero, suc, ◌+◌, ◌==◌, Bool, true, false, if◌then◌else◌, nat_lt, List, [], ◌∷◌, ◌++◌, length, map, take, drop, Some, unwrap_or, slice_index, slice_set, Result, Ok, Err, OnOk, refl, sym, ap, ◌∙◌, subst, arith, append_assoc, length-append, inl, inr, get_or-set_other, get_or-set_same}
+use Rattle.std.proofs.Common.{◌≡◌, ◌≤◌, ◌<◌, ℕ, zero, suc, ◌+◌, ◌==◌, Bool, true, false, if◌then◌else◌, nat_lt, List, [], ◌∷◌, ◌++◌, length, map, take, drop, Some, unwrap_or, slice_index, slice_set, Result, Ok, Err, OnOk, refl, sym, ap, ◌∙◌, subst, arith, append_assoc, length-append, inl, inr, get_or-set_other, get_or-set_same}
 use Rattle.std.proofs.Math.ListN.{length-set}
 use Rattle.std.specs.List.{slice_get}
 use Rattle.std.proofs.lemmas.Bool.{cases_lt, eqb-true, eqb-false, ltb-true}
@@ -16,7 +16,7 @@ use Rattle.comm_core.specs.Capture.{Mark, Did, trace_of, value_at, last_saved, p
 use Rattle.comm_core.specs.Capture.{Rung as RungMark}
 use Rattle.comm_core.specs.Processor.{next_action, behind_load, behind_store}
 use Rattle.comm_core.specs.Standing.{Place, AtRest, Called, Capturing, Answering, StandsIn, next_at}
-use Rattle.comm_core.specs.World.{WorldState, Follows, IsRung, IsLoading, IsStoring, StandsAt, StandsFor, asked, loads_word, stores_word, turns, goes_on, acts_once, acts_times, rung_at, pokes, behind_event, prepared_for, IsOfWorld}
+use Rattle.comm_core.specs.World.{WorldState, Follows, IsRung, IsLoading, IsStoring, StandsAt, StandsFor, asked, loads_word, stores_word, turns, goes_on, acts_once, acts_times, rung_at, pokes, behind_event, prepared_for, IsOfWorld, entries_asked, rings_in, turns_to_come}
 use Rattle.comm_core.specs.declared.action.Action.{Action}
 use Rattle.comm_core.specs.declared.action.Action.TheVariants.{Rest, Load, Turn, Store}
 use Rattle.comm_core.specs.declared.event.Event.{Event}
@@ -373,3 +373,51 @@ stands_for_more {M} step calls m events event w v of_world ll is s =
 pub stands_on_ok : {M T E : Type 0} (r : Result T E) (step : M → Request → Outcome × M) (calls : M → ℕ) (event : Event) (w v : WorldState M) → IsOfWorld w.words event → length w.lane ≡ w.words + 2 → OnOk r (v ≡ behind_event step calls w event) → OnOk r ((m : M) (events : List Event) → StandsFor step m events w → StandsFor step m (events ++ event ∷ []) v)
 stands_on_ok (Ok x) step calls event w v of_world ll is = λ m events s. stands_for_more step calls m events event w v of_world ll is s
 stands_on_ok (Err e) step calls event w v of_world ll is = tt
+
+-- no action asks for an entry
+asked_load : (value : ℕ) (stage : Stage) → turns_to_come (behind_load stage value) ≡ turns_to_come stage
+asked_load value Resting = refl
+asked_load value (Rung prepared saved) = refl
+asked_load value (Loading prepared saved len loaded) = refl
+asked_load value (Turning bytes) = refl
+asked_load value (Storing receipt stored) = refl
+
+asked_store : (stage : Stage) → turns_to_come (behind_store stage) ≡ turns_to_come stage
+asked_store Resting = refl
+asked_store (Rung prepared saved) = refl
+asked_store (Loading prepared saved len loaded) = refl
+asked_store (Turning bytes) = refl
+asked_store (Storing receipt stored) =
+    elim (stored + 1 == length (answer receipt)) as (λ b. turns_to_come (if b then Resting else Storing receipt (stored + 1)) ≡ 0) [ true ↦ refl | false ↦ refl ]
+
+asked_turn : (words : ℕ) (stage : Stage) → next_action words stage ≡ Turn → turns_to_come stage ≡ 1
+asked_turn words Resting e = absurd cc
+asked_turn words (Rung prepared saved) e = refl
+asked_turn words (Loading prepared saved len loaded) e = refl
+asked_turn words (Turning bytes) e = refl
+asked_turn words (Storing receipt stored) e = absurd (never_turn _ (next_is_store (answer receipt) stored) e)
+
+goes_on_asked : {M : Type 0} (step : M → Request → Outcome × M) (w : WorldState M) (a : Action) → next_action w.words w.stage ≡ a → entries_asked (goes_on step w a) ≡ entries_asked w
+goes_on_asked step w Rest e = refl
+goes_on_asked step w (Load word) e = ap (λ n. length w.entries + n) (asked_load (slice_index w.lane word) w.stage)
+goes_on_asked step w Turn e =
+    omega (arith, length-append w.entries (record { request = asked w.stage; outcome = (step w.machine (asked w.stage)).0 } ∷ []), asked_turn w.words w.stage e)
+goes_on_asked step w (Store word value) e = ap (λ n. length w.entries + n) (asked_store w.stage)
+
+pub acts_times_asked : {M : Type 0} (step : M → Request → Outcome × M) (n : ℕ) (w : WorldState M) → entries_asked (acts_times step n w) ≡ entries_asked w
+acts_times_asked step zero w = refl
+acts_times_asked step (suc n) w = acts_times_asked step n (acts_once step w) ∙ goes_on_asked step w (next_action w.words w.stage) refl
+
+rung_asked : {M : Type 0} (w : WorldState M) (stage : Stage) (prepared : Readied) (saved : Saved) → w.stage ≡ stage → entries_asked (rung_at w stage prepared saved) ≤ entries_asked w + 1
+rung_asked w Resting prepared saved e = omega (arith, ap turns_to_come e)
+rung_asked w (Rung p s) prepared saved e = omega arith
+rung_asked w (Loading p s len loaded) prepared saved e = omega arith
+rung_asked w (Turning bytes) prepared saved e = omega arith
+rung_asked w (Storing receipt stored) prepared saved e = omega arith
+
+-- an event asks for no more entries than it is rings
+pub behind_event_asked : {M : Type 0} (step : M → Request → Outcome × M) (calls : M → ℕ) (w : WorldState M) (event : Event) → entries_asked (behind_event step calls w event) ≤ entries_asked w + rings_in event
+behind_event_asked step calls w (Ring lane saved) = rung_asked w w.stage (prepared_for w.words (calls w.machine)) saved refl
+behind_event_asked step calls w (Poke lane word value) = omega arith
+behind_event_asked step calls w (Steps lane count) = omega (arith, acts_times_asked step count w)
+behind_event_asked step calls w (Run lane) = omega (arith, acts_times_asked step (longest w.words) w)

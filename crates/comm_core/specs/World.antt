@@ -157,6 +157,17 @@ turns_to_come (Loading prepared saved len loaded) = 1
 turns_to_come (Turning bytes) = 1
 turns_to_come (Storing receipt stored) = 0
 
+-- how many entries there are, with the one that a ring under way will make
+abbrev pub entries_asked : {M : Type 0} → WorldState M → ℕ
+entries_asked w = length w.entries + turns_to_come w.stage
+
+-- how many rings an event is
+abbrev pub rings_in : Event → ℕ
+rings_in (Ring lane saved) = 1
+rings_in (Poke lane word value) = 0
+rings_in (Steps lane count) = 0
+rings_in (Run lane) = 0
+
 -- the memory of a ring under way has place for whatever the machine answers
 pub record IsRoomy (words calls : ℕ) (prepared : Readied) : Type 0 where
   pub calls_fit : calls ≤ prepared.calls

@@ -2,7 +2,7 @@
 ghost use Rattle.std.specs.Prelude.{◌≡◌, ◌≤◌, ◌<◌, ◌+◌, ◌^◌, [], ◌∷◌, ◌++◌, List, length, replicate, slice_index, IfOk, OnOk, OnErr, IsOk, false};
 ghost use Rattle.comm_core.specs.Capture.{longest};
 ghost use Rattle.comm_core.specs.Processor.{next_action, is_resting, IsSound};
-ghost use Rattle.comm_core.specs.World.{StandsFor, IsOfWorld, takes_memory, loads_word, stores_word, turns, acts_once, acts_times, pokes, rung_at, prepared_for};
+ghost use Rattle.comm_core.specs.World.{StandsFor, IsOfWorld, entries_asked, rings_in, takes_memory, loads_word, stores_word, turns, acts_once, acts_times, pokes, rung_at, prepared_for};
 ghost use Rattle.comm_core.specs.declared.event.Event.{Event as Happening};
 
 use crate::{Action, Event, Fed, Processor, Trace};
@@ -53,7 +53,8 @@ impl<M: Machine + Drop> World<M> {
         requires low { 3 ≤ words }
         requires high { words ≤ 512 }
         ensures stands { IfOk result (λ world. StandsFor M.stepped machine [] world) }
-        ensures shape { IfOk result (λ world. (world.words ≡ words) × (world.entries ≡ [])) }
+        ensures words { IfOk result (λ world. world.words ≡ words) }
+        ensures entries { IfOk result (λ world. entries_asked world ≡ 0) }
     {
         let lane = vec![in alloc; 0; (words + WORDS_IN_FRONT) as usize]?;
         Ok(World {
@@ -85,6 +86,15 @@ impl<M: Machine> World<M> {
         self.lane[word as usize]
     }
 
+    /// All words of the lane: the length, the status, and the data words.
+    pub fn lane(&self, lane: u32) -> &[u64]
+        requires { lane ≡ 0 }
+        ensures value { result.now ≡ self.now.lane }
+        ensures len { length self.now.lane ≡ self.now.words + 2 }
+    {
+        self.lane.as_slice()
+    }
+
     /// All records, the oldest first.
     pub fn trace(&self) -> &[Trace]
         ensures { result.now ≡ self.now.trace }
@@ -101,6 +111,7 @@ impl<M: Machine> World<M> {
         ensures ok { takes_memory self.old.stage event.now ≡ false → IsOk result }
         ensures err { OnErr result (self.new ≡ self.old) }
         ensures words { self.new.words ≡ self.old.words }
+        ensures entries { entries_asked self.new ≤ entries_asked self.old + rings_in event.now }
     {
         let run = most_actions(self.words);
         match *event {

@@ -1,8 +1,8 @@
 use Rattle.std.proofs.Common.{ℕ, ◌≡◌, ◌+◌, ◌∙◌, length, OnOk, sym, ap, subst, arith}
 use Rattle.comm_core.specs.Capture.{longest}
-use Rattle.comm_core.specs.World.{WorldState, behind_event, acts_times}
+use Rattle.comm_core.specs.World.{entries_asked, WorldState, behind_event, acts_times}
 use Rattle.comm_core.specs.declared.event.Event.{Event}
-use Rattle.comm_core.proofs.StandsLemmas.{stands_for_more, stands_on_ok, acts_times_words}
+use Rattle.comm_core.proofs.StandsLemmas.{acts_times_asked, stands_for_more, stands_on_ok, acts_times_words}
 use Rattle.comm_core.proofs.world.World.event.Goals as goal
 
 pub returns-in-Ring-clause-stands : goal.returns-in-Ring-clause-stands
@@ -52,3 +52,11 @@ returns-in-Run-clause-stands g c machine events s =
 pub returns-in-Run-clause-words : goal.returns-in-Run-clause-words
 returns-in-Run-clause-words g c =
     ap (λ (v : WorldState _). v.words) c.steps-in-Run.ensures ∙ acts_times_words g.M.Machine.stepped c.most_actions-run.result c.args.self.now
+
+pub returns-in-Steps-clause-entries : goal.returns-in-Steps-clause-entries
+returns-in-Steps-clause-entries g c =
+    omega (arith, ap (λ (v : WorldState _). entries_asked v) c.steps.ensures, acts_times_asked g.M.Machine.stepped c.in-Steps.count c.args.self.now)
+
+pub returns-in-Run-clause-entries : goal.returns-in-Run-clause-entries
+returns-in-Run-clause-entries g c =
+    omega (arith, ap (λ (v : WorldState _). entries_asked v) c.steps-in-Run.ensures, acts_times_asked g.M.Machine.stepped c.most_actions-run.result c.args.self.now)
