@@ -30,6 +30,10 @@ HasMoreThan limit (Some left) = limit < length left
 abbrev pub GivesSome : Option (List ℕ) → Option (List ℕ) → Type 0
 GivesSome before now = (bytes : List ℕ) × Gives before now bytes
 
+-- so many bytes at most were given
+abbrev pub GivesAtMost : ℕ → Option (List ℕ) → Option (List ℕ) → Type 0
+GivesAtMost limit before now = (bytes : List ℕ) × (length bytes ≤ limit) × Gives before now bytes
+
 -- more than so many bytes were given
 abbrev pub GivesMoreThan : ℕ → Option (List ℕ) → Option (List ℕ) → Type 0
 GivesMoreThan limit before now = (bytes : List ℕ) × (limit < length bytes) × Gives before now bytes

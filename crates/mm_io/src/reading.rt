@@ -2,7 +2,7 @@
 ghost use Rattle.std.specs.Prelude.{◌≡◌, ◌≤◌, length, IfOk, OnOk, IsErrOf};
 ghost use Rattle.mm_io.specs.declared.reading.ReadEnd.TheVariants.{Failed as ReadFailed, NoMemory as OutOfMemory};
 ghost use Rattle.mm_io.specs.Causes.{Rose};
-ghost use Rattle.mm_io.specs.Streams.{GivesAll, GivesSome, GivesMoreThan, HasMoreThan};
+ghost use Rattle.mm_io.specs.Streams.{GivesAll, GivesSome, GivesAtMost, GivesMoreThan, HasMoreThan};
 
 use crate::{Failed, Source};
 use mm_base::{Bytes, List, NoMemory};
@@ -53,6 +53,7 @@ pub fn read_all<S: Source>(alloc: Global, source: &mut S, limit: u32) -> Result<
     ensures ok { IfOk result (GivesAll (S.left source.old) (S.left source.new) limit) }
     ensures failed { IsErrOf result ReadEnd.Failed → Rose (S.fault_count source.old) (S.fault_count source.new) }
     ensures too_long { IsErrOf result ReadEnd.TooLong → GivesMoreThan limit (S.left source.old) (S.left source.new) }
+    ensures at_most { (IsErrOf result ReadEnd.TooLong → ⊥) → GivesAtMost limit (S.left source.old) (S.left source.new) }
     ensures over { HasMoreThan limit (S.left source.old) → OnOk result ⊥ }
     ensures given { GivesSome (S.left source.old) (S.left source.new) }
     ensures later { S.fault_count source.old ≤ S.fault_count source.new }

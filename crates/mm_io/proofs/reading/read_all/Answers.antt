@@ -1,4 +1,5 @@
 use Rattle.std.proofs.Common.{◌≡◌, ℕ, List, ◌++◌, ◌+◌, ◌<◌, ◌≤◌, take, length, Ok, refl, ap, sym, ◌∙◌, subst, arith, rules}
+use Rattle.std.specs.declared.option.Option.{Option}
 use Rattle.mm_io.specs.Streams.{Gives}
 use Rattle.mm_io.proofs.StreamLemmas.{gives-nothing, gives-more, all-given, length-more, within-not_over}
 use Rattle.mm_io.proofs.reading.read_all.Goals as goal
@@ -54,3 +55,20 @@ loop-bytes-preserved g c =
       most = refl;
       fits = omega (arith, len, c.len.ensures, c.if-count-most.false, c.loop-bytes.invariant.fits);
     }
+
+pub returns-in_err-count-clause-at_most : goal.returns-in_err-count-clause-at_most
+returns-in_err-count-clause-at_most g c other =
+    let P : Option (List ℕ) → Type 0 = λ now. Gives (g.S.Source.left c.args.source.now) now c.loop-bytes.bytes in
+    (c.loop-bytes.bytes, omega (arith, c.loop-bytes.invariant.fits, c.loop-bytes.invariant.most), subst P (sym c.in_err-count.ensures.unchanged) c.loop-bytes.invariant.gave)
+
+pub returns-then-count-eq0-clause-at_most : goal.returns-then-count-eq0-clause-at_most
+returns-then-count-eq0-clause-at_most g c other =
+    let all = returns-then-count-eq0-clause-ok g c in
+    (c.loop-bytes.bytes, all.within, all.gives)
+
+pub returns-in_err-extend-clause-at_most : goal.returns-in_err-extend-clause-at_most
+returns-in_err-extend-clause-at_most g c other =
+    let n = c.in_ok-count.count in
+    let within : n ≤ length c.read.new.buf = search rules in
+    let len = length-more n c.loop-bytes.bytes c.read.new.buf within in
+    (_, omega (arith, len, c.len.ensures, c.if-count-most.false, c.loop-bytes.invariant.fits, c.loop-bytes.invariant.most), gives-more _ _ _ _ _ c.loop-bytes.invariant.gave c.in_ok-count.ensures.gives)
