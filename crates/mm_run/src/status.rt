@@ -1,0 +1,60 @@
+//! How a run ended.
+ghost use Rattle.std.specs.Prelude.{◌≡◌};
+ghost use Rattle.mm_run.specs.Status.{number_of_status, status_of_read};
+
+use mm_base::TextKind;
+use mm_io::ReadEnd;
+
+/// The two sources that a form may name.
+#[derive(Clone, Copy, Debug, PartialEq, Eq)]
+pub enum Which {
+    First,
+    Second,
+}
+
+/// How a run ended. Its number is the program's exit status.
+#[derive(Clone, Copy, Debug, PartialEq, Eq)]
+pub enum Status {
+    /// The sources were read to their ends, and the report was written whole.
+    Done,
+    /// The words are no form that the program serves.
+    Usage,
+    /// The text of a source is refused at this line.
+    BadText { line: u32, kind: TextKind },
+    /// A source could not be read.
+    ReadFault(Which),
+    /// The report could not be written, or a front of it alone.
+    WriteFault,
+    /// A source has more bytes than it may.
+    TooLong(Which),
+    /// Memory was refused.
+    NoMemory,
+}
+
+impl Status {
+    /// The exit status: 0 where all went well, and 2 for a damaged volume, which no form reads yet.
+    pub fn number(&self) -> u8
+        ensures { result ≡ number_of_status self.now }
+    {
+        match self {
+            Status::Done => 0,
+            Status::Usage => 1,
+            Status::BadText { .. } => 3,
+            Status::ReadFault(_) => 4,
+            Status::WriteFault => 5,
+            Status::TooLong(_) => 6,
+            Status::NoMemory => 7,
+        }
+    }
+
+    /// The status of a source that was not read whole.
+    pub fn of_read(end: ReadEnd, which: Which) -> Status
+        ensures { result ≡ status_of_read end which }
+    {
+        match end {
+            ReadEnd::Failed => Status::ReadFault(which),
+            ReadEnd::TooLong => Status::TooLong(which),
+            ReadEnd::NoMemory => Status::NoMemory,
+        }
+    }
+}

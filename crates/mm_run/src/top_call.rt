@@ -1,0 +1,177 @@
+//! The program's top call.
+ghost use Rattle.std.specs.Prelude.{◌≡◌, ◌≤◌, ◌↔◌, ◌⊎◌, Some, List, true, false, None, IfOk, IfErr, OnOk, length};
+ghost use Rattle.mm_io.specs.Causes.{Rose};
+ghost use Rattle.mm_io.specs.Streams.{Appends, AppendsFront, GivesAll, GivesAtMost, GivesMoreThan};
+ghost use Rattle.mm_run.specs.Run.{is_script as is_script_form, most_bytes, report_for, HasRead, WasDriven, HandsOut, Refuses, RefusesText, IsMade, IsDriven, writes, has_no_world};
+ghost use Rattle.mm_run.specs.Plain.{IsPlain, IsInRange, events_in};
+ghost use Rattle.mm_run.specs.EntryStep.{entry_step, scripted as scripted_core};
+ghost use Rattle.comm_core.specs.World.{StandsFor};
+
+use crate::drive::drive;
+use crate::status::{Status, Which};
+use crate::{Core, Plain, PlainEnd, events, read_plain, report, scripted};
+use comm_core::World;
+use mm_base::{Bytes, List, NoMemory, Opening, TextKind};
+use mm_io::{Sink, Source, read_all, write_all};
+use std::alloc::Global;
+
+/// The most bytes that a script may have.
+pub const MOST_SCRIPT_BYTES: u32 = 4_194_304;
+
+/// The first word of the form that runs a script.
+const SCRIPT: &str = "script";
+
+/// How a run ended, and the world that it drove.
+#[derive(Drop)]
+pub struct RunEnd {
+    pub status: Status,
+    pub world: Option<World<Core>>,
+}
+
+/// A world that was driven, and its report.
+#[derive(Drop)]
+struct Made {
+    world: World<Core>,
+    text: Bytes,
+}
+
+/// Does all that the program does. The one form is `script` and one word more: the script is the first source, and the
+/// report goes to the sink. It costs a step for each byte read and written and for each action of the processor.
+pub fn run<V: Source, S: Source, K: Sink>(
+    alloc: Global,
+    words: &Vec<String>,
+    first: &mut V,
+    second: &mut S,
+    out: &mut K,
+) -> RunEnd
+    // Each status by its cause.
+    ensures usage { (result.status ≡ Status.Usage) ↔ (is_script_form words.now.items ≡ false) }
+    ensures refusal { writes result.status ≡ false → (result.status ≡ Status.Usage → ⊥) → Refuses (V.left first.old) (V.left first.new) (Rose (V.fault_count first.old) (V.fault_count first.new)) result.status }
+    ensures write_fault { result.status ≡ Status.WriteFault → Rose (K.fault_count out.old) (K.fault_count out.new) }
+
+    // What is written: the report, a front of it, or nothing.
+    ensures done { result.status ≡ Status.Done → (plain : Plain) × HasRead (V.left first.old) (V.left first.new) plain × Appends (K.written out.old) (K.written out.new) (report_for plain) }
+    ensures front { result.status ≡ Status.WriteFault → (plain : Plain) × HasRead (V.left first.old) (V.left first.new) plain × AppendsFront (K.written out.old) (K.written out.new) (report_for plain) }
+    ensures nothing { writes result.status ≡ false → out.new ≡ out.old }
+
+    // The world that was driven is handed out.
+    ensures world { writes result.status ≡ true → HandsOut (V.left first.old) (V.left first.new) result.world }
+    ensures no_world { has_no_world result.status ≡ true → result.world ≡ None }
+
+    // No source is read that the form doesn't name.
+    ensures unread { result.status ≡ Status.Usage → first.new ≡ first.old }
+    ensures second { second.new ≡ second.old }
+{
+    if !is_script(words.as_slice()) {
+        return refused(Status::Usage);
+    }
+    match make(alloc, first) {
+        Ok(made) => write(made, out),
+        Err(status) => refused(status),
+    }
+}
+
+/// The end of a run that was refused.
+fn refused(status: Status) -> RunEnd
+    ensures status { result.status ≡ status }
+    ensures world { result.world ≡ None }
+{
+    RunEnd {
+        status,
+        world: None,
+    }
+}
+
+/// Whether the words are `script` and one word more.
+fn is_script(words: &[String]) -> bool
+    ensures { result ≡ is_script_form words.now }
+{
+    match words {
+        [form, _] => form.as_str() == SCRIPT,
+        _ => false,
+    }
+}
+
+/// Reads the script, drives its world and makes its report.
+fn make<V: Source>(alloc: Global, first: &mut V) -> Result<Made, Status>
+    ensures ok { IfOk result (λ made. IsMade (V.left first.old) (V.left first.new) made) }
+    ensures err { IfErr result (Refuses (V.left first.old) (V.left first.new) (Rose (V.fault_count first.old) (V.fault_count first.new))) }
+{
+    let bytes = read(alloc, first)?;
+    let plain = understood(alloc, bytes.as_slice())?;
+    match driven(alloc, &plain) {
+        Ok(made) => Ok(made),
+        Err(NoMemory) => Err(Status::NoMemory),
+    }
+}
+
+/// All bytes of the script.
+fn read<V: Source>(alloc: Global, first: &mut V) -> Result<Bytes, Status>
+    ensures ok { IfOk result (GivesAll (V.left first.old) (V.left first.new) most_bytes) }
+    ensures err { IfErr result (Refuses (V.left first.old) (V.left first.new) (Rose (V.fault_count first.old) (V.fault_count first.new))) }
+{
+    match read_all(alloc, first, MOST_SCRIPT_BYTES) {
+        Ok(bytes) => Ok(bytes),
+        Err(end) => Err(Status::of_read(end, Which::First)),
+    }
+}
+
+/// What the script says.
+fn understood(alloc: Global, bytes: &[u8]) -> Result<Plain, Status>
+    ensures ok { IfOk result (IsPlain bytes.now) }
+    ensures err { IfErr result (RefusesText bytes.now) }
+{
+    match read_plain(alloc, bytes) {
+        Ok(plain) => Ok(plain),
+        Err(PlainEnd::Unbuilt) => Err(Status::BadText {
+            line: 0,
+            kind: TextKind::Unbuilt,
+        }),
+        Err(PlainEnd::NoMemory) => Err(Status::NoMemory),
+    }
+}
+
+/// The world that the script drives, and its report.
+fn driven(alloc: Global, plain: &Plain) -> Result<Made, NoMemory>
+    requires { IsInRange plain.now }
+    ensures { IfOk result (IsDriven plain.now) }
+{
+    let world = driven_world(alloc, plain)?;
+    let text = report(alloc, world.entries(), world.lane(0))?;
+    Ok(Made { world, text })
+}
+
+/// The world that the script drives.
+fn driven_world(alloc: Global, plain: &Plain) -> Result<World<Core>, NoMemory>
+    requires { IsInRange plain.now }
+    ensures stands { IfOk result (StandsFor entry_step scripted_core (events_in plain.now)) }
+    ensures words { IfOk result (λ world. world.words ≡ plain.now.words) }
+{
+    let opening = Opening {
+        cells: List::new(alloc),
+    };
+    let core = scripted(alloc, &opening, &List::new(alloc))?;
+    let events = events(alloc, plain)?;
+    let mut world = World::new(alloc, core, 1, plain.words)?;
+    drive(&mut world, events.as_slice())?;
+    Ok(world)
+}
+
+/// Writes the report.
+fn write<K: Sink>(made: Made, out: &mut K) -> RunEnd
+    ensures status { (result.status ≡ Status.Done) ⊎ (result.status ≡ Status.WriteFault) }
+    ensures world { result.world ≡ Some made.world }
+    ensures done { result.status ≡ Status.Done → Appends (K.written out.old) (K.written out.new) made.text }
+    ensures write_fault { result.status ≡ Status.WriteFault → Rose (K.fault_count out.old) (K.fault_count out.new) }
+    ensures front { result.status ≡ Status.WriteFault → AppendsFront (K.written out.old) (K.written out.new) made.text }
+{
+    let Made { world, text } = made;
+    let status = match write_all(out, text.as_slice()) {
+        Ok(()) => Status::Done,
+        Err(_) => Status::WriteFault,
+    };
+    RunEnd {
+        status,
+        world: Some(world),
+    }
+}
