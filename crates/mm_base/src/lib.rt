@@ -8,6 +8,7 @@ mod entry;
 mod guid;
 mod handler;
 mod invocation;
+pub mod laws;
 mod list;
 mod machine;
 mod no_memory;
