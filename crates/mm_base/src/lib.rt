@@ -17,6 +17,8 @@ mod prepared;
 mod receipt;
 mod room;
 pub mod status;
+#[cfg(test)]
+mod tests;
 mod text;
 
 pub use access::{Denial, Kind, Right, Why};
