@@ -1,8 +1,9 @@
 ghost use Rattle.std.specs.Prelude.{◌≡◌, ◌≤◌, [], length, IfOk};
 
 use crate::{
-    CellWrite, Denial, Ended, Entries, Guid, Invocation, Kind, NoMemory, Outcome, OutcomeRooms,
-    Prepared, Receipt, Records, Right, Room, Saved, Shape, Why, guid_at, le_at, status, word_at,
+    CellWrite, Denial, Ended, Entries, Guid, Invocation, Kind, List, NoMemory, Outcome,
+    OutcomeRooms, Prepared, Receipt, Records, Right, Room, Saved, Shape, Why, guid_at, le_at,
+    status, word_at,
 };
 use std::alloc::Global;
 use std::test::Fail;
@@ -220,5 +221,14 @@ fn fills_a_room(rt: HostRuntime) -> Result<(), Fail> {
     room.truncate(1);
     room.push(5);
     assert_eq!(rt; room.as_slice(), [3, 5].as_slice());
+    Ok(())
+}
+
+#[test]
+fn grows_a_list(rt: HostRuntime) -> Result<(), Fail> {
+    let mut list = List::from_slice(rt.alloc(), &[1u8, 2])?;
+    list.push(3)?;
+    list.extend(&[4, 5])?;
+    assert_eq!(rt; list.as_slice(), [1, 2, 3, 4, 5].as_slice());
     Ok(())
 }
