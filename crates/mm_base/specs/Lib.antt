@@ -1,7 +1,9 @@
 pub mod Chain
 pub mod Entry
 pub mod Guid
+pub mod GuidLaws
 pub mod Machine
+pub mod NumberLaws
 pub mod Numbers
 pub mod Prepared
 pub mod Receipt

@@ -8,6 +8,7 @@ mod entry;
 mod guid;
 mod handler;
 mod invocation;
+pub mod laws;
 mod list;
 mod machine;
 mod no_memory;
@@ -16,6 +17,8 @@ mod prepared;
 mod receipt;
 mod room;
 pub mod status;
+#[cfg(test)]
+mod tests;
 mod text;
 
 pub use access::{Denial, Kind, Right, Why};

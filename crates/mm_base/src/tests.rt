@@ -1,0 +1,234 @@
+ghost use Rattle.std.specs.Prelude.{◌≡◌, ◌≤◌, [], length, IfOk};
+
+use crate::{
+    CellWrite, Denial, Ended, Entries, Guid, Invocation, Kind, List, NoMemory, Outcome,
+    OutcomeRooms, Prepared, Receipt, Records, Right, Room, Saved, Shape, Why, guid_at, le_at,
+    status, word_at,
+};
+use std::alloc::Global;
+use std::test::Fail;
+
+// Seventeen bytes, none twice.
+const SEVENTEEN: [u8; 17] = [
+    0x11, 0x22, 0x33, 0x44, 0x55, 0x66, 0x77, 0x88, 0x99, 0xaa, 0xbb, 0xcc, 0xdd, 0xee, 0xff, 0x10,
+    0x20,
+];
+
+// How many of them, the place, and the first and the last byte of the GUID there.
+const PLACES: [(usize, usize, Option<(u8, u8)>); 6] = [
+    (16, 0, Some((0x11, 0x10))),
+    (17, 1, Some((0x22, 0x20))),
+    (17, 0, Some((0x11, 0x10))),
+    (16, 1, None),
+    (16, 17, None),
+    (15, 0, None),
+];
+
+#[test]
+fn finds_guids(rt: HostRuntime) -> Result<(), Fail> {
+    for (count, at, ends) in PLACES {
+        let bytes = SEVENTEEN.get(..count).ok_or("fewer than seventeen")?;
+        let found = guid_at(bytes, at).map(|guid| (guid.0[0], guid.0[15]));
+        assert_eq!(rt; found, ends, "{at} of {count}");
+    }
+    Ok(())
+}
+
+// As firmware stores it, and as it is written.
+const STORED: Guid = Guid([
+    0x31, 0x56, 0x4d, 0x4d, 0x01, 0x00, 0x00, 0x40, 0x80, 0x00, 0x00, 0x00, 0x00, 0x00, 0x00, 0x01,
+]);
+
+const WRITTEN: &[u8] = b"4d4d5631-0001-4000-8000-000000000001";
+
+const TEXTS: [(&str, Option<Guid>); 6] = [
+    ("4d4d5631-0001-4000-8000-000000000001", Some(STORED)),
+    ("4D4D5631-0001-4000-8000-000000000001", Some(STORED)),
+    ("4d4d5631000140008000000000000001", Some(STORED)),
+    ("4d4d5631", None),
+    ("4d4d5631-0001-4000-8000-00000000000g", None),
+    ("", None),
+];
+
+#[test]
+fn texts_of_guids(rt: HostRuntime) {
+    assert_eq!(rt; STORED.text().as_slice(), WRITTEN);
+    for (text, guid) in TEXTS {
+        assert_eq!(rt; Guid::from_text(text), guid, "at {text}");
+    }
+}
+
+const NINE: &[u8] = &[1, 2, 3, 4, 5, 6, 7, 8, 9];
+
+const NUMBERS: [(usize, u8, Option<u64>); 8] = [
+    (0, 1, Some(1)),
+    (1, 2, Some(0x0302)),
+    (0, 3, Some(0x0003_0201)),
+    (1, 8, Some(0x0908_0706_0504_0302)),
+    (8, 1, Some(9)),
+    (2, 8, None),
+    (9, 1, None),
+    (10, 1, None),
+];
+
+#[test]
+fn reads_numbers(rt: HostRuntime) {
+    for (at, n, number) in NUMBERS {
+        assert!(rt; 1 <= n && n <= 8);
+        assert_eq!(rt; le_at(NINE, at, n), number, "{n} bytes at {at}");
+    }
+    assert_eq!(rt; word_at(NINE, 0), 0x0807_0605_0403_0201);
+    assert_eq!(rt; word_at(NINE, 1), 9);
+}
+
+const DENIAL: Denial = Denial {
+    kind: Kind::Memory,
+    right: Right::Write,
+    at: 0x1000,
+    n: 8,
+    why: Why::Rule(2),
+};
+
+const WRITE: CellWrite = CellWrite {
+    kind: Kind::Io,
+    at: 0xb2,
+    n: 1,
+    value: 0x5a,
+};
+
+fn one_invocation(alloc: Global) -> Result<Invocation, NoMemory> {
+    let mut records = Records::new(alloc)?;
+    records.deny(DENIAL);
+    records.write(WRITE);
+    Ok(records.ended(7, Ended::Returned(status::NOT_FOUND)))
+}
+
+#[test]
+fn keeps_records(rt: HostRuntime) -> Result<(), Fail> {
+    let invocation = one_invocation(rt.alloc())?;
+    assert_eq!(rt; invocation.handler, 7);
+    assert_eq!(rt; invocation.denials.as_slice(), [DENIAL].as_slice());
+    assert_eq!(rt; invocation.writes.as_slice(), [WRITE].as_slice());
+    Ok(())
+}
+
+// An outcome in the rooms that were prepared for it.
+fn outcome_in(rooms: OutcomeRooms, only: Invocation) -> Outcome
+    requires reply { (rooms.reply.items ≡ []) × (2 ≤ rooms.reply.room) }
+    requires chain { (rooms.chain.items ≡ []) × (1 ≤ rooms.chain.room) }
+    ensures { length result.reply ≡ 2 }
+{
+    let OutcomeRooms {
+        mut reply,
+        mut chain,
+        root,
+        blanks: _,
+    } = rooms;
+    reply.extend(&[9, 8]);
+    chain.push(only);
+    Outcome {
+        shape: Shape::Dispatched(STORED),
+        status: status::NOT_FOUND,
+        reply: reply.into_list(),
+        chain: chain.into_list(),
+        root: root.into_list(),
+    }
+}
+
+// A whole entry, and what it tells at place 11.
+fn entry_and_receipt(alloc: Global) -> Result<(Entries, Receipt), NoMemory> {
+    let only = one_invocation(alloc)?;
+    let mut prepared = Prepared::new(alloc, 4, 1)?;
+    prepared.capture(&[1, 2, 3]);
+    prepared.seal(5, 3, 2, Saved::ZERO);
+    let outcome = outcome_in(prepared.rooms(), only);
+    prepared.finish(outcome);
+    let receipt = prepared.receipt(11);
+    Ok((prepared.into_entry(), receipt))
+}
+
+#[test]
+fn prepares_an_entry(rt: HostRuntime) -> Result<(), Fail> {
+    let (entries, receipt) = entry_and_receipt(rt.alloc())?;
+    let entry = entries.get(0).ok_or("no entry")?;
+    assert_eq!(rt;
+        (
+            entry.request.lane,
+            entry.request.length,
+            entry.outcome.chain.len()
+        ),
+        (5, 3, 1)
+    );
+    assert_eq!(rt; entry.request.bytes.as_slice(), [1, 2].as_slice());
+    assert_eq!(rt;
+        (receipt.position, receipt.dispatched, receipt.status),
+        (11, true, status::NOT_FOUND)
+    );
+    assert_eq!(rt; receipt.bytes.as_slice(), [9, 8].as_slice());
+    Ok(())
+}
+
+// One entry of a processor on this lane.
+fn entry_of(alloc: Global, lane: u32) -> Result<Entries, NoMemory>
+    ensures { IfOk result (λ entries. length entries ≡ 1) }
+{
+    let mut prepared = Prepared::new(alloc, 0, 0)?;
+    prepared.seal(lane, 0, 0, Saved::ZERO);
+    Ok(prepared.into_entry())
+}
+
+// Entries of the lanes from 0.
+fn entries_of_lanes(alloc: Global, count: u32) -> Result<Entries, NoMemory> {
+    let mut entries = Entries::new();
+    for lane in 0..count {
+        entries.join(entry_of(alloc, lane)?);
+    }
+    Ok(entries)
+}
+
+#[test]
+fn joins_entries(rt: HostRuntime) -> Result<(), Fail> {
+    let alloc = rt.alloc();
+    let entries = entries_of_lanes(alloc, 3)?;
+    assert_eq!(rt; entries.len(), 3);
+    for (place, lane) in [(0, Some(0)), (1, Some(1)), (2, Some(2)), (3, None)] {
+        let found = entries.get(place).map(|entry| entry.request.lane);
+        assert_eq!(rt; found, lane, "at {place}");
+    }
+    let mut lane = 0u32;
+    for entry in entries.in_order(alloc)? {
+        assert_eq!(rt; entry.request.lane, lane);
+        lane = lane.saturating_add(1);
+    }
+    assert_eq!(rt; lane, 3);
+    Ok(())
+}
+
+// A chain that is dropped box in box would overflow the stack.
+#[test]
+fn drops_a_long_chain(rt: HostRuntime) -> Result<(), Fail> {
+    let entries = entries_of_lanes(rt.alloc(), 100_000)?;
+    assert_eq!(rt; entries.len(), 100_000);
+    Ok(())
+}
+
+#[test]
+fn fills_a_room(rt: HostRuntime) -> Result<(), Fail> {
+    let mut room = Room::none(rt.alloc());
+    room.reserve(2)?;
+    room.push(3u8);
+    room.push(4);
+    room.truncate(1);
+    room.push(5);
+    assert_eq!(rt; room.as_slice(), [3, 5].as_slice());
+    Ok(())
+}
+
+#[test]
+fn grows_a_list(rt: HostRuntime) -> Result<(), Fail> {
+    let mut list = List::from_slice(rt.alloc(), &[1u8, 2])?;
+    list.push(3)?;
+    list.extend(&[4, 5])?;
+    assert_eq!(rt; list.as_slice(), [1, 2, 3, 4, 5].as_slice());
+    Ok(())
+}
