@@ -1,4 +1,6 @@
 pub mod AnswerLemmas
+pub mod CourseLemmas
+pub mod LawLemmas
 pub mod PieceLemmas
 pub mod ProcessorLemmas
 pub mod ReadyLemmas

@@ -91,10 +91,10 @@ next_in-captured words outs lane len values h =
     ∙ capture_at (needed words len) (length values) h
 
 -- the receipt of a piece's turn
-receipt_at-told : (outs : List Outcome) (position : ℕ) (outcome : Outcome) → slice_get outs position ≡ Some outcome → receipt_at outs (Some position) ≡ Some (told position outcome)
+pub receipt_at-told : (outs : List Outcome) (position : ℕ) (outcome : Outcome) → slice_get outs position ≡ Some outcome → receipt_at outs (Some position) ≡ Some (told position outcome)
 receipt_at-told outs position outcome h = ap (option_map (told position)) h
 
-turn_in-answered : (lane len : ℕ) (values : List ℕ) (position : ℕ) (stores : List (ℕ × ℕ)) → turn_in (answered lane len values position stores) ≡ Some position
+pub turn_in-answered : (lane len : ℕ) (values : List ℕ) (position : ℕ) (stores : List (ℕ × ℕ)) → turn_in (answered lane len values position stores) ≡ Some position
 turn_in-answered lane len values position stores = turn_in-loads_made lane 2 values (Turned lane position ∷ map (λ to. Stored lane to.0 to.1) stores)
 
 length-answered : (lane len : ℕ) (values : List ℕ) (position : ℕ) (stores : List (ℕ × ℕ)) → length (answered lane len values position stores) ≡ suc (length values + suc (length stores))

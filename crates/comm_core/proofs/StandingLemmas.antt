@@ -79,7 +79,7 @@ is_away (Capturing len values) = true
 is_away (Answering len values position outcome stored) = true
 
 -- the next action of a capture or an answer is none of resting
-capturing_busy : (words len : ℕ) (values : List ℕ) → is_rest (next_at words (Capturing len values)) ≡ false
+pub capturing_busy : (words len : ℕ) (values : List ℕ) → is_rest (next_at words (Capturing len values)) ≡ false
 capturing_busy words len values = elim (nat_lt (length values) (needed words len)) as (λ b. is_rest (if b then Load (2 + length values) else Turn) ≡ false) [ true ↦ refl | false ↦ refl ]
 
 -- the store that is next
@@ -90,13 +90,13 @@ next_store words len values position outcome stored to h =
 length-take_front : {X : Type 0} (xs : List X) (n : ℕ) → n ≤ length xs → length (take n xs) ≡ n
 length-take_front xs n h = length-take n xs ∙ omega arith
 
-answering_next : (words : ℕ) (outs : List Outcome) (lane : ℕ) (past : List Mark) (len : ℕ) (values : List ℕ) (position : ℕ) (outcome : Outcome) (stored : ℕ) → IsTold words outs len values position outcome stored → next_in words outs (answered lane len values position (take stored (answer (told position outcome)))) ≡ next_at words (Answering len values position outcome stored)
+pub answering_next : (words : ℕ) (outs : List Outcome) (lane : ℕ) (past : List Mark) (len : ℕ) (values : List ℕ) (position : ℕ) (outcome : Outcome) (stored : ℕ) → IsTold words outs len values position outcome stored → next_in words outs (answered lane len values position (take stored (answer (told position outcome)))) ≡ next_at words (Answering len values position outcome stored)
 answering_next words outs lane past len values position outcome stored t =
     let stores : List (ℕ × ℕ) = answer (told position outcome) in
     next_in-answered words outs lane len values position outcome (take stored stores) t.enough t.told_so
     ∙ ap (λ n. unwrap_or (slice_get (map store stores) n) Rest) (length-take_front stores stored (omega (arith, t.more)))
 
-answering_busy : (words : ℕ) (outs : List Outcome) (len : ℕ) (values : List ℕ) (position : ℕ) (outcome : Outcome) (stored : ℕ) → IsTold words outs len values position outcome stored → is_rest (next_at words (Answering len values position outcome stored)) ≡ false
+pub answering_busy : (words : ℕ) (outs : List Outcome) (len : ℕ) (values : List ℕ) (position : ℕ) (outcome : Outcome) (stored : ℕ) → IsTold words outs len values position outcome stored → is_rest (next_at words (Answering len values position outcome stored)) ≡ false
 answering_busy words outs len values position outcome stored t =
     ap is_rest (next_store words len values position outcome stored _ (slice_get-get_or (answer (told position outcome)) stored (0, 0) t.more))
 

@@ -1,4 +1,5 @@
 pub mod Capture
+pub mod Laws
 pub mod Piece
 pub mod Processor
 pub mod Standing

@@ -4,6 +4,7 @@
 mod action;
 mod answer;
 mod event;
+pub mod laws;
 mod processor;
 mod trace;
 mod world;

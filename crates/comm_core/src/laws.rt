@@ -1,0 +1,22 @@
+//! Laws of the capture, for every machine, every list of events of any lanes, and every lane and lane size.
+ghost use Rattle.comm_core.specs.Laws.{EachWordOnce, OlderAreServed, EachBegins, RequestsStay, CourseRequestsStay, RunRests};
+
+use mm_base::Machine;
+
+/// A request's words are loaded once each, and before its turn, whatever others store to the lane meanwhile.
+pub fn each_word_once<M: Machine>()
+    ensures served { EachWordOnce M.stepped }
+    ensures older { OlderAreServed M.stepped }
+    ensures begins { EachBegins M.stepped }
+{}
+
+/// Whatever happens behind a turn, the requests that were captured so far stay as they are.
+pub fn requests_stay<M: Machine>()
+    ensures stay { RequestsStay }
+    ensures events { CourseRequestsStay M.stepped }
+{}
+
+/// A run leads its lane to rest.
+pub fn run_rests<M: Machine>()
+    ensures { RunRests M.stepped }
+{}
