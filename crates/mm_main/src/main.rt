@@ -12,8 +12,9 @@ use std::rt::Env;
 use std::{env, io};
 
 fn main(rt: HostRuntime) -> ExitCode {
-    let Some(words) = words(&rt) else {
-        return ended(&rt, Status::Usage, "", "");
+    let words = match words(&rt) {
+        Ok(words) => words,
+        Err(status) => return ended(&rt, status, "", ""),
     };
     let first_name = word(&words, 1);
     let second_name = word(&words, 2);
@@ -24,13 +25,21 @@ fn main(rt: HostRuntime) -> ExitCode {
     ended(&rt, end.status, first_name, second_name)
 }
 
-/// The words of the command line, without the program's own name; None where one of them is no text.
-fn words<R: Env + Alloc<A = Global>>(rt: &R) -> Option<Vec<String>> {
+/// The words of the command line, without the program's own name. One that is no text is a faulty command line.
+fn words<R: Env + Alloc<A = Global>>(rt: &R) -> Result<Vec<String>, Status> {
+    let all = match env::args(rt) {
+        Ok(all) => all,
+        Err(error) if error.kind() == io::ErrorKind::OutOfMemory => return Err(Status::NoMemory),
+        Err(_) => return Err(Status::Usage),
+    };
     let mut words = Vec::new(rt.alloc());
-    for word in env::args(rt).ok()?.skip(1) {
-        words.push(word).ok()?;
+    for word in all.skip(1) {
+        match words.push(word) {
+            Ok(()) => (),
+            Err(_) => return Err(Status::NoMemory),
+        }
     }
-    Some(words)
+    Ok(words)
 }
 
 /// A word of the command line; empty, which names no file, where there is none.

@@ -175,3 +175,6 @@ fn write<K: Sink>(made: Made, out: &mut K) -> RunEnd
         world: Some(world),
     }
 }
+
+#[cfg(test)]
+mod tests;

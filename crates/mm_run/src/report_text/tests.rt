@@ -12,10 +12,6 @@ const VERSION: Guid = Guid([
     0x31, 0x56, 0x4d, 0x4d, 0x01, 0x00, 0x00, 0x40, 0x80, 0, 0, 0, 0, 0, 0, 0x01,
 ]);
 
-const ASKED: &str = "31564d4d01000040800000000000000108000000000000000000000000000000";
-
-const ANSWERED: &str = "31564d4d01000040800000000000000108000000000000000800010000000000";
-
 /// The one entry of a request with these bytes, at most 32.
 fn one(
     alloc: Global,
@@ -53,62 +49,6 @@ fn outcome(alloc: Global, shape: Shape, status: u64, reply: List<u8>) -> Outcome
         chain: List::new(alloc),
         root: List::new(alloc),
     }
-}
-
-#[test]
-fn the_version_request(rt: HostRuntime) -> Result<(), Fail> {
-    let alloc = rt.alloc();
-    let asked = hex::decode(alloc, ASKED)?;
-    let reply = List::from_vec(hex::decode(alloc, ANSWERED)?);
-    let mut outcome = outcome(alloc, Shape::Dispatched(VERSION), 0, reply);
-    outcome.chain.push(ended(alloc, 0, Ended::Returned(0)))?;
-    let entries = one(alloc, 32, asked.as_slice(), Saved::ZERO, outcome)?;
-    let lane = [
-        0x20,
-        0,
-        0x4000_0001_4d4d_5631,
-        0x0100_0000_0000_0080,
-        8,
-        0x0001_0008,
-    ];
-    let text = report(alloc, &entries, &lane)?;
-    assert_eq!(rt;
-        text.as_slice(),
-        b"entry 0 lane 0 loads 5 status 0000000000000000
-  request 0000000000000020 31564d4d01000040800000000000000108000000000000000000000000000000
-  dispatched 4d4d5631-0001-4000-8000-000000000001
-  handler 0 returned 0000000000000000
-  reply 31564d4d01000040800000000000000108000000000000000800010000000000
-lane 0 length 0000000000000020 status 0000000000000000 data 31564d4d01000040800000000000000108000000000000000800010000000000
-"
-            .as_slice()
-    );
-    Ok(())
-}
-
-#[test]
-fn a_length_below_a_header(rt: HostRuntime) -> Result<(), Fail> {
-    let alloc = rt.alloc();
-    let outcome = outcome(
-        alloc,
-        Shape::BadLength,
-        0x8000_0000_0000_0002,
-        List::new(alloc),
-    );
-    let entries = one(alloc, 0x17, &[], Saved::ZERO, outcome)?;
-    let lane = [0x17, 0x8000_0000_0000_0002, 0, 0, 0, 0];
-    let text = report(alloc, &entries, &lane)?;
-    assert_eq!(rt;
-        text.as_slice(),
-        b"entry 0 lane 0 loads 1 status 8000000000000002
-  request 0000000000000017 -
-  refused length
-  reply -
-lane 0 length 0000000000000017 status 8000000000000002 data 0000000000000000000000000000000000000000000000000000000000000000
-"
-            .as_slice()
-    );
-    Ok(())
 }
 
 /// An invocation with a denial and a cell write of each kind of word.

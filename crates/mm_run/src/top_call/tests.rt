@@ -1,0 +1,202 @@
+//! Whole runs over sources and sinks in memory. What is expected was worked out by hand from the definitions.
+use super::*;
+use mm_io::{FileSource, MemorySink, MemorySource};
+use std::alloc::AllocError;
+use std::process::Abort;
+use std::test::Fail;
+
+/// How many bytes a sink of these tests takes.
+const ROOM: usize = 8_192;
+
+const VERSION_SCRIPT: &[u8] =
+    b"lanes 1 4\nfill 0 31564d4d01000040800000000000000108000000000000000000000000000000\nring 0\nrun 0\n";
+
+const VERSION_REPORT: &[u8] =
+    b"entry 0 lane 0 loads 5 status 0000000000000000\n  request 0000000000000020 31564d4d01000040800000000000000108000000000000000000000000000000\n  dispatched 4d4d5631-0001-4000-8000-000000000001\n  handler 0 returned 0000000000000000\n  reply 31564d4d01000040800000000000000108000000000000000800010000000000\nlane 0 length 0000000000000020 status 0000000000000000 data 31564d4d01000040800000000000000108000000000000000800010000000000\n";
+
+/// The words `script` and a file's name.
+fn script_words(alloc: Global) -> Result<Vec<String>, AllocError> {
+    let mut words = Vec::new(alloc);
+    words.push(String::from_str(alloc, "script")?)?;
+    words.push(String::from_str(alloc, "version.script")?)?;
+    Ok(words)
+}
+
+fn source(alloc: Global, script: &[u8], failing: &[u32]) -> Result<MemorySource, NoMemory> {
+    Ok(MemorySource::new(
+        List::from_slice(alloc, script)?,
+        100,
+        List::from_slice(alloc, failing)?,
+    ))
+}
+
+/// So many bytes. It has no clause, so that no proof computes the list.
+fn many(alloc: Global, count: usize) -> Result<Bytes, NoMemory> {
+    let bytes = vec![in alloc; b'#'; count]?;
+    Ok(List::from_vec(bytes))
+}
+
+/// A sink that takes so many bytes a call.
+fn sink(alloc: Global, most: u32, failing: &[u32]) -> Result<MemorySink, NoMemory> {
+    Ok(MemorySink::new(many(alloc, ROOM)?, most, List::from_slice(alloc, failing)?))
+}
+
+/// A run of this script answers 0 and writes this report.
+fn reports(rt: &impl Abort, alloc: Global, script: &[u8], report: &[u8]) -> Result<(), NoMemory> {
+    let words = script_words(alloc)?;
+    let mut first = source(alloc, script, &[])?;
+    let mut second = source(alloc, b"", &[])?;
+    let mut out = sink(alloc, 4_096, &[])?;
+    let end = run(alloc, &words, &mut first, &mut second, &mut out);
+    assert_eq!(rt; (end.status, end.world.is_some()), (Status::Done, true));
+    assert_eq!(rt; out.written(), report);
+    Ok(())
+}
+
+/// A run of this script ends so, and writes nothing.
+fn refuses(
+    rt: &impl Abort,
+    alloc: Global,
+    words: &Vec<String>,
+    script: &[u8],
+    failing: &[u32],
+    status: Status,
+) -> Result<(), NoMemory> {
+    let mut first = source(alloc, script, failing)?;
+    let mut second = source(alloc, b"", &[])?;
+    let mut out = sink(alloc, 4_096, &[])?;
+    let end = run(alloc, words, &mut first, &mut second, &mut out);
+    assert_eq!(rt;
+        (end.status, end.world.is_none(), out.written().len()),
+        (status, true, 0)
+    );
+    Ok(())
+}
+
+#[test]
+fn a_version_request(rt: HostRuntime) -> Result<(), Fail> {
+    reports(&rt, rt.alloc(), VERSION_SCRIPT, VERSION_REPORT)?;
+    Ok(())
+}
+
+/// The handler refuses a message of no bytes, and the header comes back.
+#[test]
+fn a_message_of_no_bytes(rt: HostRuntime) -> Result<(), Fail> {
+    reports(
+        &rt,
+        rt.alloc(),
+        b"lanes 1 4\nfill 0 31564d4d0100004080000000000000010000000000000000\nring 0\nrun 0\n",
+        b"entry 0 lane 0 loads 4 status 800000000000000e
+  request 0000000000000018 31564d4d0100004080000000000000010000000000000000
+  dispatched 4d4d5631-0001-4000-8000-000000000001
+  handler 0 returned 8000000000000002
+  reply 31564d4d0100004080000000000000010000000000000000
+lane 0 length 0000000000000018 status 800000000000000e data 31564d4d01000040800000000000000100000000000000000000000000000000
+",
+    )?;
+    Ok(())
+}
+
+#[test]
+fn a_header_that_tells_more_than_there_is(rt: HostRuntime) -> Result<(), Fail> {
+    reports(
+        &rt,
+        rt.alloc(),
+        b"lanes 1 4\nfill 0 31564d4d010000408000000000000001ffffffffffffffff\nring 0\nrun 0\n",
+        b"entry 0 lane 0 loads 4 status 8000000000000002
+  request 0000000000000018 31564d4d010000408000000000000001ffffffffffffffff
+  refused header
+  reply -
+lane 0 length 0000000000000018 status 8000000000000002 data 31564d4d010000408000000000000001ffffffffffffffff0000000000000000
+",
+    )?;
+    Ok(())
+}
+
+#[test]
+fn a_length_that_stays_0(rt: HostRuntime) -> Result<(), Fail> {
+    reports(
+        &rt,
+        rt.alloc(),
+        b"lanes 1 4\nring 0\nrun 0\n",
+        b"entry 0 lane 0 loads 1 status 8000000000000002
+  request 0000000000000000 -
+  refused length
+  reply -
+lane 0 length 0000000000000000 status 8000000000000002 data 0000000000000000000000000000000000000000000000000000000000000000
+",
+    )?;
+    Ok(())
+}
+
+#[test]
+fn faults_have_their_causes(rt: HostRuntime) -> Result<(), Fail> {
+    let alloc = rt.alloc();
+    let words = script_words(alloc)?;
+    refuses(
+        &rt,
+        alloc,
+        &Vec::new(alloc),
+        VERSION_SCRIPT,
+        &[],
+        Status::Usage,
+    )?;
+    refuses(
+        &rt,
+        alloc,
+        &words,
+        b"lanes 1 4",
+        &[],
+        Status::BadText {
+            line: 0,
+            kind: TextKind::Unbuilt,
+        },
+    )?;
+    refuses(
+        &rt,
+        alloc,
+        &words,
+        VERSION_SCRIPT,
+        &[0],
+        Status::ReadFault(Which::First),
+    )?;
+    let long = many(alloc, 4_194_305)?;
+    refuses(
+        &rt,
+        alloc,
+        &words,
+        long.as_slice(),
+        &[],
+        Status::TooLong(Which::First),
+    )?;
+    Ok(())
+}
+
+#[test]
+fn a_front_is_written(rt: HostRuntime) -> Result<(), Fail> {
+    let alloc = rt.alloc();
+    let words = script_words(alloc)?;
+    let mut first = source(alloc, VERSION_SCRIPT, &[])?;
+    let mut second = source(alloc, b"", &[])?;
+    let mut out = sink(alloc, 16, &[1])?;
+    let end = run(alloc, &words, &mut first, &mut second, &mut out);
+    assert_eq!(rt;
+        (end.status, end.world.is_some()),
+        (Status::WriteFault, true)
+    );
+    assert_eq!(rt; out.written(), b"entry 0 lane 0 l".as_slice());
+    Ok(())
+}
+
+#[test]
+fn a_file_that_is_not_there(rt: HostRuntime) -> Result<(), Fail> {
+    let alloc = rt.alloc();
+    let words = script_words(alloc)?;
+    let mut first = FileSource::open(&rt, "version.script");
+    let mut second = FileSource::open(&rt, "");
+    let mut out = sink(alloc, 16, &[])?;
+    let end = run(alloc, &words, &mut first, &mut second, &mut out);
+    assert_eq!(rt; end.status, Status::ReadFault(Which::First));
+    assert_eq!(rt; out.written().len(), 0);
+    Ok(())
+}
