@@ -1,0 +1,9 @@
+use Rattle.std.proofs.Common.{rules, tests, ◌∙◌, ◌==◌}
+use Rattle.std.proofs.lemmas.Iterator.{YieldsList-from_slice}
+use Rattle.std.proofs.lemmas.Iterator.Search.{find_from_yields_List}
+use Rattle.mmi_registry.proofs.handlers.find_number.Goals as goal
+
+pub returns : goal.returns
+returns c =
+    c.copied.ensures
+    ∙ find_from_yields_List (λ handler. handler.number == c.args.number) _ _ _ c.find.ensures.ran (YieldsList-from_slice c.args.handlers.now cc) (λ x b q k. search (rules, tests))

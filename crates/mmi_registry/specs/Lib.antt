@@ -1,0 +1,4 @@
+pub mod ChainLaws
+pub mod ChainRule
+pub mod Handlers
+pub mod Registry
