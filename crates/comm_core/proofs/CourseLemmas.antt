@@ -220,7 +220,7 @@ acts_other step m words lane other (suc n) past h p =
     (made_other step m words lane other past (next words (outcomes_of step m past) other past) h p)
 
 -- so many actions of any lane
-acts_any : {M : Type 0} (step : M → Request → Outcome × M) (m : M) (words lane other n : ℕ) (past : List Mark) → IsBounded step → Placed step m words lane past → Placed step m words lane (acts step m words other n past)
+pub acts_any : {M : Type 0} (step : M → Request → Outcome × M) (m : M) (words lane other n : ℕ) (past : List Mark) → IsBounded step → Placed step m words lane past → Placed step m words lane (acts step m words other n past)
 acts_any step m words lane other n past bounded p =
     elim (other == lane) as (λ b. (other == lane) ≡ b → Placed step m words lane (acts step m words other n past)) [
       | true ↦ λ e.

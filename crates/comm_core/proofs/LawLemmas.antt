@@ -9,7 +9,7 @@ use Rattle.mm_base.specs.declared.entry.Request.{Request}
 use Rattle.mm_base.specs.declared.receipt.Receipt.{Receipt}
 use Rattle.comm_core.specs.Piece.{needed, loads, store, answer, whole, loaded, length_in, turn_in, receipt_at, next_in, request_in}
 use Rattle.comm_core.specs.Capture.{Mark, Rung, Did, pieces, newest, last_saved, requests, outcomes_of, is_rest, rests, made, next, acts, act, longest, happens, behind, course}
-use Rattle.comm_core.specs.Laws.{Begins, action_of, loads_of, behind_turn, IsOfRequest, IsServed}
+use Rattle.comm_core.specs.Laws.{Begins, action_of, loads_of, behind_turn, IsOfRequest, LoadsOnce, IsServed}
 use Rattle.comm_core.specs.Standing.{loads_made, captured, answered, IsWhole, AreWhole, StandsIn, Place, AtRest, Called, Capturing, Answering}
 use Rattle.comm_core.specs.declared.action.Action.{Action}
 use Rattle.comm_core.specs.declared.action.Action.TheVariants.{Rest, Load, Turn, Store}
@@ -87,7 +87,6 @@ behind_turn-loads_made : (lane word : ℕ) (values : List ℕ) (rest : List Trac
 behind_turn-loads_made lane word [] rest = refl
 behind_turn-loads_made lane word (value ∷ values) rest = behind_turn-loads_made lane (word + 1) values rest
 
--- an answered piece loads each word of its request once, no other, and none behind its turn
 once_answered : (words lane len : ℕ) (values : List ℕ) (position : ℕ) (stores : List (ℕ × ℕ)) (word : ℕ) → length values ≡ needed words len → IsOfRequest words len word → loads_of word (answered lane len values position stores) ≡ 1
 once_answered words lane len values position stores word enough (inl z) =
     equal 0 word _ _ (sym z)
@@ -109,6 +108,16 @@ none_answered words lane len values position stores word enough h =
     ]
     ∙ loads_of-stores word lane stores
 
+-- an answered piece loads each word of its request once, no other, and none behind its turn
+pub loads_answered : (words lane len : ℕ) (values : List ℕ) (position : ℕ) (stores : List (ℕ × ℕ)) → length values ≡ needed words len → LoadsOnce words (answered lane len values position stores)
+loads_answered words lane len values position stores enough = record {
+  once = λ word h. once_answered words lane len values position stores word enough h;
+  no_other = λ word h. none_answered words lane len values position stores word enough h;
+  before_turn =
+      ap loaded (behind_turn-loads_made lane 2 values (Turned lane position ∷ map (λ to. Stored lane to.0 to.1) stores))
+      ∙ loaded-stores lane stores;
+}
+
 -- a whole piece is served
 pub served : (words : ℕ) (outs : List Outcome) (lane : ℕ) (piece : List Trace) → IsWhole words outs lane piece → IsServed words outs piece
 served words outs lane piece w =
@@ -120,17 +129,11 @@ served words outs lane piece w =
       receipt = receipt;
       of_turn = ap (receipt_at outs) (turn_in-answered lane w.len w.values w.position stores) ∙ receipt_at-told outs w.position w.outcome w.told_so;
       in_order = actions-answered lane w.len w.values w.position stores ∙ ap (λ n. Load 0 ∷ (loads 2 n ++ Turn ∷ map store stores)) w.enough;
-      loads = record {
-        once = λ word h. once_answered words lane w.len w.values w.position stores word w.enough h;
-        no_other = λ word h. none_answered words lane w.len w.values w.position stores word w.enough h;
-        before_turn =
-            ap loaded (behind_turn-loads_made lane 2 w.values (Turned lane w.position ∷ map (λ to. Stored lane to.0 to.1) stores))
-            ∙ loaded-stores lane stores;
-      };
+      loads = loads_answered words lane w.len w.values w.position stores w.enough;
     }
 
 -- each piece of whole ones is whole
-one_whole : (words : ℕ) (outs : List Outcome) (lane : ℕ) (ps : List (List Trace)) (k : ℕ) (piece : List Trace) → AreWhole words outs lane ps → slice_get ps k ≡ Some piece → IsWhole words outs lane piece
+pub one_whole : (words : ℕ) (outs : List Outcome) (lane : ℕ) (ps : List (List Trace)) (k : ℕ) (piece : List Trace) → AreWhole words outs lane ps → slice_get ps k ≡ Some piece → IsWhole words outs lane piece
 one_whole words outs lane [] k piece w h = absurd cc
 one_whole words outs lane (p ∷ ps) zero piece w h =
     let e : p ≡ piece = cc in

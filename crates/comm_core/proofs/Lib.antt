@@ -1,5 +1,6 @@
 pub mod AnswerLemmas
 pub mod CourseLemmas
+pub mod HeadlineLemmas
 pub mod LawLemmas
 pub mod PieceLemmas
 pub mod ProcessorLemmas

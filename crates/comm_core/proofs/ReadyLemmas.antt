@@ -12,7 +12,8 @@ use Rattle.mm_base.specs.declared.receipt.Receipt.{Receipt}
 use Rattle.comm_core.specs.Capture.{longest}
 use Rattle.comm_core.specs.Piece.{needed, answer, store, from_word}
 use Rattle.comm_core.specs.Processor.{ProcessorState, is_resting, IsSound, IsBlank, MayRing, sealed, next_action, behind_load, behind_store, to_come, MayLoad, MayStore, MayTake}
-use Rattle.comm_core.specs.World.{asked, IsReady, HasRoom, IsRoomy, turns_to_come}
+use Rattle.comm_core.specs.World.{IsReady, HasRoom, IsRoomy, turns_to_come}
+use Rattle.comm_core.specs.Transitions.{asked}
 use Rattle.comm_core.specs.declared.action.Action.{Action}
 use Rattle.comm_core.specs.declared.action.Action.TheVariants.{Rest, Load, Turn, Store}
 use Rattle.comm_core.specs.declared.processor.Stage.{Stage}
@@ -99,7 +100,8 @@ load_room words calls value (Loading prepared saved len loaded) r = record { cal
 load_room words calls value (Turning bytes) r = r
 load_room words calls value (Storing receipt stored) r = tt
 
-load_turns : (value : ℕ) (stage : Stage) → turns_to_come (behind_load stage value) ≡ turns_to_come stage
+-- a load leaves the turn to come
+pub load_turns : (value : ℕ) (stage : Stage) → turns_to_come (behind_load stage value) ≡ turns_to_come stage
 load_turns value Resting = refl
 load_turns value (Rung prepared saved) = refl
 load_turns value (Loading prepared saved len loaded) = refl
@@ -159,7 +161,8 @@ store_room words calls (Turning bytes) r = r
 store_room words calls (Storing receipt stored) r =
     elim (stored + 1 == length (answer receipt)) as (λ b. HasRoom words calls (if b then Resting else Storing receipt (stored + 1))) [ true ↦ tt | false ↦ tt ]
 
-store_turns : (stage : Stage) → turns_to_come (behind_store stage) ≡ turns_to_come stage
+-- a store leaves the turn to come, or made
+pub store_turns : (stage : Stage) → turns_to_come (behind_store stage) ≡ turns_to_come stage
 store_turns Resting = refl
 store_turns (Rung prepared saved) = refl
 store_turns (Loading prepared saved len loaded) = refl

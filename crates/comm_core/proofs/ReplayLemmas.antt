@@ -5,14 +5,7 @@ use Rattle.mm_base.specs.Replay.{replayed, left_by, outcomes}
 use Rattle.mm_base.specs.declared.entry.Entry.{Entry}
 use Rattle.mm_base.specs.declared.entry.Outcome.{Outcome}
 use Rattle.mm_base.specs.declared.entry.Request.{Request}
-
-pub replayed-snoc : {M : Type 0} (step : M → Request → Outcome × M) (m : M) (rs : List Request) (r : Request) → replayed step m (rs ++ r ∷ []) ≡ replayed step m rs ++ record { request = r; outcome = (step (left_by step m rs) r).0 } ∷ []
-replayed-snoc step m [] r = refl
-replayed-snoc step m (q ∷ rs) r = ap (λ es. record { request = q; outcome = (step m q).0 } ∷ es) (replayed-snoc step (step m q).1 rs r)
-
-pub left_by-snoc : {M : Type 0} (step : M → Request → Outcome × M) (m : M) (rs : List Request) (r : Request) → left_by step m (rs ++ r ∷ []) ≡ (step (left_by step m rs) r).1
-left_by-snoc step m [] r = refl
-left_by-snoc step m (q ∷ rs) r = left_by-snoc step (step m q).1 rs r
+use Rattle.mm_history.proofs.RunLemmas.{replayed-snoc}
 
 pub length-replayed : {M : Type 0} (step : M → Request → Outcome × M) (m : M) (rs : List Request) → length (replayed step m rs) ≡ length rs
 length-replayed step m [] = refl

@@ -16,7 +16,8 @@ use Rattle.comm_core.specs.Capture.{Mark, Did, trace_of, value_at, last_saved, p
 use Rattle.comm_core.specs.Capture.{Rung as RungMark}
 use Rattle.comm_core.specs.Processor.{next_action, behind_load, behind_store}
 use Rattle.comm_core.specs.Standing.{Place, AtRest, Called, Capturing, Answering, StandsIn, next_at}
-use Rattle.comm_core.specs.World.{WorldState, Follows, IsRung, IsLoading, IsStoring, StandsAt, StandsFor, asked, loads_word, stores_word, turns, goes_on, acts_once, acts_times, rung_at, pokes, behind_event, prepared_for, IsOfWorld, entries_asked, rings_in, turns_to_come}
+use Rattle.comm_core.specs.World.{WorldState, Follows, IsRung, IsLoading, IsStoring, StandsAt, StandsFor, IsOfWorld, entries_asked, rings_in, turns_to_come}
+use Rattle.comm_core.specs.Transitions.{asked, loads_word, stores_word, turns, goes_on, acts_once, acts_times, rung_at, pokes, behind_event, prepared_for}
 use Rattle.comm_core.specs.declared.action.Action.{Action}
 use Rattle.comm_core.specs.declared.action.Action.TheVariants.{Rest, Load, Turn, Store}
 use Rattle.comm_core.specs.declared.event.Event.{Event}
@@ -25,8 +26,9 @@ use Rattle.comm_core.specs.declared.processor.Stage.{Stage}
 use Rattle.comm_core.specs.declared.processor.Stage.TheVariants.{Resting, Rung, Loading, Turning, Storing}
 use Rattle.comm_core.specs.declared.trace.Trace.TheVariants.{Loaded, Stored, Poked, Turned}
 use Rattle.comm_core.proofs.PieceLemmas.{loaded-captured}
-use Rattle.comm_core.proofs.ReadyLemmas.{next_is_store, never_load, never_turn, turn_enough, capture_stores, load_within}
-use Rattle.comm_core.proofs.ReplayLemmas.{replayed-snoc, left_by-snoc, length-replayed, length-outcomes, outcomes-snoc}
+use Rattle.comm_core.proofs.ReadyLemmas.{next_is_store, never_load, never_turn, turn_enough, capture_stores, load_within, load_turns, store_turns}
+use Rattle.mm_history.proofs.RunLemmas.{replayed-snoc, left_by-snoc}
+use Rattle.comm_core.proofs.ReplayLemmas.{length-replayed, length-outcomes, outcomes-snoc}
 use Rattle.comm_core.proofs.StandingLemmas.{at_rest, is_away, away, next_of_place, last_saved-rung, to_called, to_capturing, to_capturing_more, to_answering, to_answering_more, to_rest}
 
 -- the next action of a place is that of the stage that follows it
@@ -374,22 +376,7 @@ pub stands_on_ok : {M T E : Type 0} (r : Result T E) (step : M → Request → O
 stands_on_ok (Ok x) step calls event w v of_world ll is = λ m events s. stands_for_more step calls m events event w v of_world ll is s
 stands_on_ok (Err e) step calls event w v of_world ll is = tt
 
--- no action asks for an entry
-asked_load : (value : ℕ) (stage : Stage) → turns_to_come (behind_load stage value) ≡ turns_to_come stage
-asked_load value Resting = refl
-asked_load value (Rung prepared saved) = refl
-asked_load value (Loading prepared saved len loaded) = refl
-asked_load value (Turning bytes) = refl
-asked_load value (Storing receipt stored) = refl
-
-asked_store : (stage : Stage) → turns_to_come (behind_store stage) ≡ turns_to_come stage
-asked_store Resting = refl
-asked_store (Rung prepared saved) = refl
-asked_store (Loading prepared saved len loaded) = refl
-asked_store (Turning bytes) = refl
-asked_store (Storing receipt stored) =
-    elim (stored + 1 == length (answer receipt)) as (λ b. turns_to_come (if b then Resting else Storing receipt (stored + 1)) ≡ 0) [ true ↦ refl | false ↦ refl ]
-
+-- a turn is to come in front of it
 asked_turn : (words : ℕ) (stage : Stage) → next_action words stage ≡ Turn → turns_to_come stage ≡ 1
 asked_turn words Resting e = absurd cc
 asked_turn words (Rung prepared saved) e = refl
@@ -397,12 +384,13 @@ asked_turn words (Loading prepared saved len loaded) e = refl
 asked_turn words (Turning bytes) e = refl
 asked_turn words (Storing receipt stored) e = absurd (never_turn _ (next_is_store (answer receipt) stored) e)
 
+-- no action asks for an entry
 goes_on_asked : {M : Type 0} (step : M → Request → Outcome × M) (w : WorldState M) (a : Action) → next_action w.words w.stage ≡ a → entries_asked (goes_on step w a) ≡ entries_asked w
 goes_on_asked step w Rest e = refl
-goes_on_asked step w (Load word) e = ap (λ n. length w.entries + n) (asked_load (slice_index w.lane word) w.stage)
+goes_on_asked step w (Load word) e = ap (λ n. length w.entries + n) (load_turns (slice_index w.lane word) w.stage)
 goes_on_asked step w Turn e =
     omega (arith, length-append w.entries (record { request = asked w.stage; outcome = (step w.machine (asked w.stage)).0 } ∷ []), asked_turn w.words w.stage e)
-goes_on_asked step w (Store word value) e = ap (λ n. length w.entries + n) (asked_store w.stage)
+goes_on_asked step w (Store word value) e = ap (λ n. length w.entries + n) (store_turns w.stage)
 
 pub acts_times_asked : {M : Type 0} (step : M → Request → Outcome × M) (n : ℕ) (w : WorldState M) → entries_asked (acts_times step n w) ≡ entries_asked w
 acts_times_asked step zero w = refl

@@ -9,7 +9,8 @@ use Rattle.mm_base.specs.Prepared.{Readied}
 use Rattle.mm_base.specs.declared.cells.Saved.{Saved}
 use Rattle.mm_base.specs.declared.receipt.Receipt.{Receipt}
 use Rattle.comm_core.specs.Processor.{ProcessorState, is_resting, next_action, behind_load, behind_store}
-use Rattle.comm_core.specs.World.{WorldState, rung_at, acts_once, acts_times, goes_on, asked, loads_word, stores_word, turns}
+use Rattle.comm_core.specs.World.{WorldState}
+use Rattle.comm_core.specs.Transitions.{rung_at, acts_once, acts_times, goes_on, asked, loads_word, stores_word, turns}
 use Rattle.comm_core.specs.declared.action.Action.TheVariants.{Rest}
 use Rattle.comm_core.specs.declared.processor.Stage.{Stage}
 use Rattle.comm_core.specs.declared.processor.Stage.TheVariants.{Resting, Rung, Loading, Turning, Storing}

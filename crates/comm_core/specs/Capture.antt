@@ -1,6 +1,6 @@
 -- The capture trace: what a list of events makes happen, said by looking back at what has happened so far. There is no
 -- processor, no phase and no buffer in it.
-use Rattle.std.specs.Prelude.{ℕ, zero, suc, ◌+◌, ◌*◌, Bool, true, false, if◌then◌else◌, ◌&&◌, ◌==◌, List, [], ◌∷◌, ◌++◌, length}
+use Rattle.std.specs.Prelude.{ℕ, zero, suc, ◌+◌, ◌*◌, Bool, true, false, if◌then◌else◌, ◌&&◌, ◌==◌, List, [], ◌∷◌, ◌++◌, length, map, reverse}
 use Rattle.std.specs.List.{list_all}
 use Rattle.mm_base.specs.Entry.{no_registers}
 use Rattle.mm_base.specs.Replay.{outcomes}
@@ -63,6 +63,14 @@ pieces lane (Did (Loaded l word value) ∷ past) =
 pieces lane (Did (Stored l word value) ∷ past) = if l == lane then joined (Stored l word value) (pieces lane past) else pieces lane past
 pieces lane (Did (Poked l word value) ∷ past) = pieces lane past
 pieces lane (Did (Turned l position) ∷ past) = if l == lane then joined (Turned l position) (pieces lane past) else pieces lane past
+
+-- The marks that a trace tells, the newest first, and the pieces of a lane in a trace. A trace tells no rings; no piece
+-- asks for them.
+abbrev pub marks_of : List Trace → List Mark
+marks_of trace = reverse (map Did trace)
+
+abbrev pub pieces_in : ℕ → List Trace → List (List Trace)
+pieces_in lane trace = pieces lane (marks_of trace)
 
 -- the newest piece, or none of a piece
 abbrev pub newest : List (List Trace) → List Trace

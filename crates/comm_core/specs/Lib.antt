@@ -1,6 +1,9 @@
 pub mod Capture
+pub mod Headline
 pub mod Laws
 pub mod Piece
 pub mod Processor
 pub mod Standing
+pub mod TestMachine
+pub mod Transitions
 pub mod World

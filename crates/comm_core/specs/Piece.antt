@@ -1,5 +1,8 @@
 -- A piece: what the processor of a lane does for one ring, from its load of the length word to its store of the status.
 --
+-- The buffer is the one that EFI_MM_COMMUNICATION_PROTOCOL hands over, with EFI_MM_COMMUNICATE_HEADER in front (PI 1.8,
+-- volume 4). That it is exchanged by words of 64 bits, and in which order, is this project's own.
+--
 -- A lane has a length word (word 0), a status word (word 1) and data words from word 2 on; data word j holds the bytes
 -- 8*j to 8*j + 7 of the communicate buffer, the lowest byte first. Its capacity is 8 bytes a data word.
 use Rattle.std.specs.Prelude.{ℕ, zero, suc, ◌+◌, ◌*◌, if◌then◌else◌, ◌&&◌, nat_le, List, [], ◌∷◌, ◌++◌, length, take, drop, map, Option, Some, None, unwrap_or, slice_get, option_map}

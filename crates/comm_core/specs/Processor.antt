@@ -38,6 +38,14 @@ next_action words (Storing receipt stored) = unwrap_or (slice_get (map store (an
 abbrev pub with_word : Readied → ℕ → Readied
 with_word prepared value = record prepared { captured = record { items = prepared.captured.items ++ bytes_of_word value; room = prepared.captured.room } }
 
+-- the stage behind the load of the length
+abbrev pub length_loaded : Stage → ℕ → Stage
+length_loaded Resting value = Resting
+length_loaded (Rung prepared saved) value = Loading prepared saved value 0
+length_loaded (Loading prepared saved len loaded) value = Loading prepared saved len loaded
+length_loaded (Turning bytes) value = Turning bytes
+length_loaded (Storing receipt stored) value = Storing receipt stored
+
 -- the stage behind a load of this value
 abbrev pub behind_load : Stage → ℕ → Stage
 behind_load Resting value = Resting

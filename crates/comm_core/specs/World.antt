@@ -1,6 +1,5 @@
 -- A world: the words of its lane, its processor, its machine with the entries so far, and the trace. What it stands for.
-use Rattle.std.specs.Prelude.{◌≡◌, ◌≤◌, ◌<◌, ℕ, zero, suc, ◌+◌, ◌*◌, ◌^◌, List, [], ◌∷◌, ◌++◌, length, take, slice_index, slice_set, Bool, true, false}
-use Rattle.mm_base.specs.Entry.{blank_entry}
+use Rattle.std.specs.Prelude.{◌≡◌, ◌≤◌, ◌<◌, ℕ, ◌+◌, ◌*◌, ◌^◌, List, [], length, slice_index, Bool, true, false}
 use Rattle.mm_base.specs.Numbers.{bytes_of_words}
 use Rattle.mm_base.specs.Prepared.{Readied}
 use Rattle.mm_base.specs.Receipt.{told}
@@ -11,17 +10,14 @@ use Rattle.mm_base.specs.declared.entry.Entry.{Entry}
 use Rattle.mm_base.specs.declared.entry.Outcome.{Outcome}
 use Rattle.mm_base.specs.declared.entry.Request.{Request}
 use Rattle.mm_base.specs.declared.receipt.Receipt.{Receipt}
-use Rattle.comm_core.specs.Capture.{Mark, trace_of, value_at, last_saved, requests, outcomes_of, longest, course}
-use Rattle.comm_core.specs.Processor.{ProcessorState, is_resting, next_action, behind_load, behind_store, to_come}
+use Rattle.comm_core.specs.Capture.{Mark, trace_of, value_at, last_saved, requests, outcomes_of, course}
+use Rattle.comm_core.specs.Processor.{ProcessorState, is_resting, to_come}
 use Rattle.comm_core.specs.Standing.{Place, AtRest, Called, Capturing, Answering, StandsIn}
-use Rattle.comm_core.specs.declared.action.Action.{Action}
-use Rattle.comm_core.specs.declared.action.Action.TheVariants.{Rest, Load, Turn, Store}
 use Rattle.comm_core.specs.declared.event.Event.{Event}
 use Rattle.comm_core.specs.declared.event.Event.TheVariants.{Ring, Poke, Steps, Run}
 use Rattle.comm_core.specs.declared.processor.Stage.{Stage}
 use Rattle.comm_core.specs.declared.processor.Stage.TheVariants.{Resting, Rung, Loading, Turning, Storing}
 use Rattle.comm_core.specs.declared.trace.Trace.{Trace}
-use Rattle.comm_core.specs.declared.trace.Trace.TheVariants.{Loaded, Stored, Poked, Turned}
 
 -- What contracts see of a world of one lane: how many data words the lane has and the values of all its words, the
 -- stage of its processor, its machine, its entries in recorded order, and its trace.
@@ -77,77 +73,6 @@ pub record StandsAt {M : Type 0} (step : M → Request → Outcome × M) (machin
 -- A world stands for a list of events from a machine value: it stands at what these events make happen.
 abbrev pub StandsFor : {M : Type 0} → (M → Request → Outcome × M) → M → List Event → WorldState M → Type 0
 StandsFor step machine events w = StandsAt step machine (course step machine w.words events) w
-
--- the request that a processor has captured
-abbrev pub asked : Stage → Request
-asked Resting = blank_entry.request
-asked (Rung prepared saved) = blank_entry.request
-asked (Loading prepared saved len loaded) = record { lane = 0; length = len; bytes = take len prepared.captured.items; saved = saved }
-asked (Turning bytes) = blank_entry.request
-asked (Storing receipt stored) = blank_entry.request
-
--- What the world is behind an action of its processor.
-abbrev pub loads_word : {M : Type 0} → WorldState M → ℕ → WorldState M
-loads_word w word =
-    let value = slice_index w.lane word in
-    record w { stage = behind_load w.stage value; trace = w.trace ++ Loaded 0 word value ∷ [] }
-
-abbrev pub stores_word : {M : Type 0} → WorldState M → ℕ → ℕ → WorldState M
-stores_word w word value = record w {
-  lane = slice_set w.lane word value;
-  stage = behind_store w.stage;
-  trace = w.trace ++ Stored 0 word value ∷ [];
-}
-
-abbrev pub turns : {M : Type 0} → (M → Request → Outcome × M) → WorldState M → WorldState M
-turns step w =
-    let turn = step w.machine (asked w.stage) in
-    record w {
-      machine = turn.1;
-      entries = w.entries ++ record { request = asked w.stage; outcome = turn.0 } ∷ [];
-      stage = Storing (told (length w.entries) turn.0) 0;
-      trace = w.trace ++ Turned 0 (length w.entries) ∷ [];
-    }
-
-abbrev pub goes_on : {M : Type 0} → (M → Request → Outcome × M) → WorldState M → Action → WorldState M
-goes_on step w Rest = w
-goes_on step w (Load word) = loads_word w word
-goes_on step w Turn = turns step w
-goes_on step w (Store word value) = stores_word w word value
-
-abbrev pub acts_once : {M : Type 0} → (M → Request → Outcome × M) → WorldState M → WorldState M
-acts_once step w = goes_on step w (next_action w.words w.stage)
-
-abbrev pub acts_times : {M : Type 0} → (M → Request → Outcome × M) → ℕ → WorldState M → WorldState M
-acts_times step zero w = w
-acts_times step (suc n) w = acts_times step n (acts_once step w)
-
--- the memory of an entry, for a lane of so many data words and a machine of so many calls
-abbrev pub prepared_for : ℕ → ℕ → Readied
-prepared_for words calls = record {
-  entry = blank_entry;
-  captured = record { items = []; room = 8 * words };
-  reply = 8 * words;
-  calls = calls;
-  second = 8 * words;
-}
-
--- What the world is behind an event.
-abbrev pub rung_at : {M : Type 0} → WorldState M → Stage → Readied → Saved → WorldState M
-rung_at w Resting prepared saved = record w { stage = Rung prepared saved }
-rung_at w (Rung p s) prepared saved = w
-rung_at w (Loading p s len loaded) prepared saved = w
-rung_at w (Turning bytes) prepared saved = w
-rung_at w (Storing receipt stored) prepared saved = w
-
-abbrev pub pokes : {M : Type 0} → WorldState M → ℕ → ℕ → WorldState M
-pokes w word value = record w { lane = slice_set w.lane word value; trace = w.trace ++ Poked 0 word value ∷ [] }
-
-abbrev pub behind_event : {M : Type 0} → (M → Request → Outcome × M) → (M → ℕ) → WorldState M → Event → WorldState M
-behind_event step calls w (Ring lane saved) = rung_at w w.stage (prepared_for w.words (calls w.machine)) saved
-behind_event step calls w (Poke lane word value) = pokes w word value
-behind_event step calls w (Steps lane count) = acts_times step count w
-behind_event step calls w (Run lane) = acts_times step (longest w.words) w
 
 -- whether the turn of a ring is still to come
 abbrev pub turns_to_come : Stage → ℕ

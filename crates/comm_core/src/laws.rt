@@ -1,4 +1,5 @@
 //! Laws of the capture, for every machine, every list of events of any lanes, and every lane and lane size.
+ghost use Rattle.comm_core.specs.Headline.{EachHasHeadline};
 ghost use Rattle.comm_core.specs.Laws.{EachWordOnce, OlderAreServed, EachBegins, RequestsStay, CourseRequestsStay, RunRests};
 
 use mm_base::Machine;
@@ -19,4 +20,9 @@ pub fn requests_stay<M: Machine>()
 /// A run leads its lane to rest.
 pub fn run_rests<M: Machine>()
     ensures { RunRests M.stepped }
+{}
+
+/// The headline, of every world that stands for any list of events: what its trace and its entries say by themselves.
+pub fn headline<M: Machine>()
+    ensures { EachHasHeadline M.stepped }
 {}

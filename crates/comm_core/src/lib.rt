@@ -6,6 +6,8 @@ mod answer;
 mod event;
 pub mod laws;
 mod processor;
+#[cfg(test)]
+mod tests;
 mod trace;
 mod world;
 

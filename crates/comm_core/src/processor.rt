@@ -1,7 +1,7 @@
 //! The processor of a lane: it captures a request word by word, and stores the answer word by word.
 ghost use Rattle.std.specs.Prelude.{◌≡◌, ◌≤◌, ◌<◌, ◌+◌, ◌*◌, nat_lt, if◌then◌else◌, length};
 ghost use Rattle.comm_core.specs.Piece.{needed as needed_words};
-ghost use Rattle.comm_core.specs.Processor.{next_action, is_resting as rests_at, to_come, behind_fed, behind_load as after_load, behind_store as after_store, sealed, IsSound, MayFeed, MayFeedSoundly, MayLoadSoundly, MayStoreSoundly, MayTake};
+ghost use Rattle.comm_core.specs.Processor.{next_action, is_resting as rests_at, to_come, behind_fed, length_loaded, behind_load as after_load, behind_store as after_store, sealed, IsSound, MayFeed, MayFeedSoundly, MayLoadSoundly, MayStoreSoundly, MayTake};
 
 use crate::Action;
 use crate::answer::{answer_at, answer_length};
@@ -116,8 +116,7 @@ impl Processor {
         requires { MayFeed self.old.words self.old.stage fed }
         ensures { self.new ≡ record self.old { stage = behind_fed self.old.stage fed } }
     {
-        let stage = mem::replace(&mut self.stage, Stage::Resting);
-        put(&mut self.stage, stage.behind(fed));
+        self.stage.go_on(fed);
     }
 
     /// Hands out the memory that the ring fed, with the request that was captured in it.
@@ -147,48 +146,54 @@ fn put(place: &mut Stage, stage: Stage)
 }
 
 impl Stage {
-    /// The stage behind what is fed.
-    fn behind(self, fed: Fed) -> Stage
-        requires { MayFeedSoundly self fed }
-        ensures { result ≡ behind_fed self fed }
+    /// Goes on by what is fed. Loads and stores change what they count in its place.
+    fn go_on(&mut self, fed: Fed)
+        requires { MayFeedSoundly self.old fed }
+        ensures { self.new ≡ behind_fed self.old fed }
     {
         match fed {
-            Fed::Ring(prepared, saved) => Stage::Rung(prepared, saved),
-            Fed::Loaded(value) => self.behind_load(value),
-            Fed::Answered(receipt) => Stage::Storing(receipt, 0),
-            Fed::Stored => self.behind_store(),
+            Fed::Ring(prepared, saved) => put(self, Stage::Rung(prepared, saved)),
+            Fed::Loaded(value) => self.load(value),
+            Fed::Answered(receipt) => put(self, Stage::Storing(receipt, 0)),
+            Fed::Stored => self.store(),
         }
     }
 
-    /// The stage behind a load of this value.
-    fn behind_load(self, value: u64) -> Stage
-        requires { MayLoadSoundly self }
-        ensures { result ≡ after_load self value }
+    /// Goes on by a load of this value.
+    fn load(&mut self, value: u64)
+        requires { MayLoadSoundly self.old }
+        ensures { self.new ≡ after_load self.old value }
     {
         match self {
-            Stage::Rung(prepared, saved) => Stage::Loading(prepared, saved, value, 0),
-            Stage::Loading(mut prepared, saved, length, loaded) => {
+            Stage::Loading(prepared, _, _, loaded) => {
                 prepared.capture(&value.to_le_bytes());
-                Stage::Loading(prepared, saved, length, loaded + 1)
+                *loaded += 1;
             }
-            other => other,
+            Stage::Rung(_, _) => self.load_length(value),
+            _ => (),
         }
     }
 
-    /// The stage behind a store.
-    fn behind_store(self) -> Stage
-        requires { MayStoreSoundly self }
-        ensures { result ≡ after_store self }
+    /// Goes on by the load of the length.
+    fn load_length(&mut self, value: u64)
+        ensures { self.new ≡ length_loaded self.old value }
     {
-        match self {
-            Stage::Storing(receipt, stored) => {
-                if stored + 1 == answer_length(&receipt) {
-                    Stage::Resting
-                } else {
-                    Stage::Storing(receipt, stored + 1)
-                }
+        match mem::replace(self, Stage::Resting) {
+            Stage::Rung(prepared, saved) => put(self, Stage::Loading(prepared, saved, value, 0)),
+            other => put(self, other),
+        }
+    }
+
+    /// Goes on by a store.
+    fn store(&mut self)
+        requires { MayStoreSoundly self.old }
+        ensures { self.new ≡ after_store self.old }
+    {
+        if let Stage::Storing(receipt, stored) = self {
+            *stored += 1;
+            if *stored == answer_length(receipt) {
+                put(self, Stage::Resting);
             }
-            other => other,
         }
     }
 }

@@ -2,11 +2,13 @@
 ghost use Rattle.std.specs.Prelude.{◌≡◌, ◌≤◌, ◌<◌, ◌+◌, ◌^◌, [], ◌∷◌, ◌++◌, List, length, replicate, slice_index, IfOk, OnOk, OnErr, IsOk, false};
 ghost use Rattle.comm_core.specs.Capture.{longest};
 ghost use Rattle.comm_core.specs.Processor.{next_action, is_resting, IsSound};
-ghost use Rattle.comm_core.specs.World.{StandsFor, IsOfWorld, entries_asked, rings_in, takes_memory, loads_word, stores_word, turns, acts_once, acts_times, pokes, rung_at, prepared_for};
+ghost use Rattle.comm_core.specs.World.{StandsFor, IsOfWorld, entries_asked, rings_in, takes_memory};
+ghost use Rattle.comm_core.specs.Transitions.{loads_word, stores_word, turns, acts_once, acts_times, pokes, rung_at, prepared_for};
 ghost use Rattle.comm_core.specs.declared.event.Event.{Event as Happening};
 
 use crate::{Action, Event, Fed, Processor, Trace};
 use mm_base::{Entries, Machine, NoMemory, Prepared, Room, Saved};
+use mm_history::Kept;
 use std::alloc::Global;
 use std::marker::Model;
 
@@ -23,8 +25,7 @@ pub struct World<M: Machine> {
     words: u32,
     lane: Vec<u64>,
     processor: Processor,
-    machine: M,
-    entries: Entries,
+    kept: Kept<M>,
     trace: Room<Trace>,
 }
 
@@ -38,12 +39,12 @@ impl<M: Machine> Model for World<M> {
       words = w.words;
       lane = w.lane.items;
       stage = w.processor.stage;
-      machine = w.machine;
-      entries = w.entries;
+      machine = w.kept.machine;
+      entries = w.kept.entries;
       trace = w.trace.items;
     } };
 
-    ghost invariant = { λ w. IsReady w.words (vec_len w.lane) (M.most_calls w.machine) w.processor (length w.entries) w.trace };
+    ghost invariant = { λ w. IsReady w.words (vec_len w.lane) (M.most_calls w.kept.machine) w.processor (length w.kept.entries) w.trace };
 }
 
 impl<M: Machine + Drop> World<M> {
@@ -62,8 +63,7 @@ impl<M: Machine + Drop> World<M> {
             words,
             lane,
             processor: Processor::new(LANE, words),
-            machine,
-            entries: Entries::new(),
+            kept: Kept::begin(machine),
             trace: Room::none(alloc),
         })
     }
@@ -74,7 +74,7 @@ impl<M: Machine> World<M> {
     pub fn entries(&self) -> &Entries
         ensures { result.now ≡ self.now.entries }
     {
-        &self.entries
+        self.kept.entries()
     }
 
     /// The value of a word of the lane.
@@ -142,7 +142,7 @@ impl<M: Machine> World<M> {
         if !self.processor.is_resting() {
             return Ok(());
         }
-        let prepared = Prepared::new(self.alloc, 8 * self.words, self.machine.calls())?;
+        let prepared = Prepared::new(self.alloc, 8 * self.words, self.kept.machine().calls())?;
         self.trace.reserve(most_actions(self.words) as usize)?;
         self.processor.feed(Fed::Ring(prepared, saved));
         Ok(())
@@ -201,12 +201,9 @@ impl<M: Machine> World<M> {
         requires { next_action self.old.words self.old.stage ≡ Action.Turn }
         ensures { self.new ≡ turns M.stepped self.old }
     {
-        let mut prepared = self.processor.take_request();
-        self.machine.step(&mut prepared);
-        let position = self.entries.len();
-        let receipt = prepared.receipt(position);
-        self.entries.join(prepared.into_entry());
-        self.trace.push(Trace::Turned(LANE, position));
+        let prepared = self.processor.take_request();
+        let receipt = self.kept.serve(prepared);
+        self.trace.push(Trace::Turned(LANE, receipt.position));
         self.processor.feed(Fed::Answered(receipt));
     }
 

@@ -7,13 +7,13 @@ use thiserror::Error;
 pub enum Fault<'a> {
     #[error("usage: mm_main script FILE")]
     Usage,
-    #[error("{name}: no script of the plain form: a line `lanes 1 W`, then lines `fill 0 HEX`, `ring 0` or `run 0`, each ended by a line feed, with single spaces; W from 3 to 512, 1 to 8*W bytes a fill, at most 8192 rings")]
+    #[error("{name:?} is no script of the plain form: a line `lanes 1 W`, then lines `fill 0 HEX`, `poke 0 I V`, `ring 0`, `step 0`, `step 0 N` or `run 0`, each ended by a line feed, with single spaces; W from 3 to 512, 1 to 8*W bytes a fill, I below W + 2, V of 1 to 16 hexadecimal digits, N from 1 to 2048, at most 8192 rings")]
     BadText { name: &'a str },
-    #[error("{name}: it could not be opened or read")]
+    #[error("{name:?} could not be opened or read")]
     Read { name: &'a str },
     #[error("standard output could not be written")]
     Write,
-    #[error("{name}: it has more than {most} bytes", most = MOST_SCRIPT_BYTES)]
+    #[error("{name:?} has more than {most} bytes", most = MOST_SCRIPT_BYTES)]
     TooLong { name: &'a str },
     #[error("memory was refused")]
     NoMemory,
@@ -44,3 +44,6 @@ fn name_of<'a>(which: Which, first: &'a str, second: &'a str) -> &'a str {
         Which::Second => second,
     }
 }
+
+#[cfg(test)]
+mod tests;

@@ -1,12 +1,14 @@
 -- The plain form again, as a function from texts to what they say, and what reading functions answer.
 use Rattle.std.specs.Prelude.{◌≡◌, ℕ, Bool, ◌&&◌, ◌==◌, nat_le, if◌then◌else◌, List, [], ◌∷◌, ◌++◌, length, take, drop, codes, count_by, Option, Some, None, option_map, option_and_then, Result, Ok, Err, MatchResult}
+use Rattle.std.specs.Char.{is_digit}
 use Rattle.std.specs.List.{list_all}
 use Rattle.std.specs.Str.{bytes_eq}
+use Rattle.std.specs.Str.Parse.{digits_value}
 use Rattle.hex.specs.Hex.{decode_of}
 use Rattle.hex.specs.declared.error.FromHexError.{FromHexError}
-use Rattle.mm_run.specs.Plain.{is_digit, number_on, fits, is_ring}
+use Rattle.mm_run.specs.Plain.{fits, is_ring}
 use Rattle.mm_run.specs.declared.plain.Line.{Line}
-use Rattle.mm_run.specs.declared.plain.Line.TheVariants.{Fill, Ring, Run}
+use Rattle.mm_run.specs.declared.plain.Line.TheVariants.{Fill, Poke, Ring, Steps, Run}
 use Rattle.mm_run.specs.declared.plain.Plain.{Plain}
 use Rattle.mm_run.specs.declared.plain.PlainEnd.{PlainEnd}
 use Rattle.mm_run.specs.declared.plain.PlainEnd.TheVariants.{Unbuilt}
@@ -19,14 +21,18 @@ Gives said result = MatchResult result (λ x. said ≡ Some x) (λ e. e ≡ Unbu
 abbrev pub behind : List ℕ → List ℕ → Option (List ℕ)
 behind label text = if bytes_eq (take (length label) text) label then Some (drop (length label) text) else None
 
--- the line that ends at the first line feed, and what stands behind that
-abbrev pub split_line : List ℕ → Option (List ℕ × List ℕ)
-split_line [] = None
-split_line (byte ∷ text) = if byte == 10 then Some ([], text) else option_map (λ p. (byte ∷ p.0, p.1)) (split_line text)
+-- what stands in front of the first of this byte, and what stands behind it
+abbrev pub split_at : ℕ → List ℕ → Option (List ℕ × List ℕ)
+split_at stop [] = None
+split_at stop (byte ∷ text) = if byte == stop then Some ([], text) else option_map (λ p. (byte ∷ p.0, p.1)) (split_at stop text)
 
--- a number of 1 to 10 digits
-abbrev pub number_in : List ℕ → Option ℕ
-number_in text = if nat_le 1 (length text) && nat_le (length text) 10 && list_all is_digit text then Some (number_on 0 text) else None
+-- whether a text is one digit in this base or more, and at most so many
+abbrev pub is_number : ℕ → ℕ → List ℕ → Bool
+is_number base most text = nat_le 1 (length text) && nat_le (length text) most && list_all (λ byte. is_digit byte base) text
+
+-- a number of at most so many digits in this base
+abbrev pub number_in : ℕ → ℕ → List ℕ → Option ℕ
+number_in base most text = if is_number base most text then Some (digits_value base text) else None
 
 -- a number of words that a lane may have
 abbrev pub words_in : ℕ → Option ℕ
@@ -34,19 +40,49 @@ words_in number = if nat_le 3 number && nat_le number 512 then Some number else 
 
 -- the number of data words that the first line tells
 abbrev pub lanes_of : List ℕ → Option ℕ
-lanes_of line = option_and_then words_in (option_and_then number_in (behind (codes "lanes 1 ") line))
+lanes_of line = option_and_then words_in (option_and_then (number_in 10 10) (behind (codes "lanes 1 ") line))
 
 -- what a fill with these digits decoded so is
 abbrev pub filled : Result (List ℕ) FromHexError → Option Line
 filled (Ok bytes) = Some (Fill bytes)
 filled (Err e) = None
 
+-- what a fill with these digits is
+abbrev pub fill_in : List ℕ → Option Line
+fill_in digits = filled (decode_of digits)
+
+-- a poke of this value to this word, if both are said
+abbrev pub poked : Option ℕ → Option ℕ → Option Line
+poked word value = option_and_then (λ known. option_map (Poke known) value) word
+
+-- a poke, by the texts of its word and its value
+abbrev pub poke_by : List ℕ × List ℕ → Option Line
+poke_by p = poked (number_in 10 10 p.0) (number_in 16 16 p.1)
+
+-- what a poke with these words is
+abbrev pub poke_in : List ℕ → Option Line
+poke_in text = option_and_then poke_by (split_at 32 text)
+
+-- what steps with this count are
+abbrev pub steps_in : List ℕ → Option Line
+steps_in text = option_map Steps (number_in 10 10 text)
+
+-- what stands behind a label, read so, or else another reading
+abbrev pub labelled : Option (List ℕ) → (List ℕ → Option Line) → Option Line → Option Line
+labelled (Some rest) read other = read rest
+labelled None read other = other
+
+-- what a line of numbers says: a poke, or steps with their count
+abbrev pub numbers_in : List ℕ → Option Line
+numbers_in text = labelled (behind (codes "poke 0 ") text) poke_in (labelled (behind (codes "step 0 ") text) steps_in None)
+
 -- what a line says
 abbrev pub line_of : List ℕ → Option Line
 line_of text =
     if bytes_eq text (codes "ring 0") then Some Ring
     else if bytes_eq text (codes "run 0") then Some Run
-    else option_and_then (λ digits. filled (decode_of digits)) (behind (codes "fill 0 ") text)
+    else if bytes_eq text (codes "step 0") then Some (Steps 1)
+    else labelled (behind (codes "fill 0 ") text) fill_in (numbers_in text)
 
 -- one more line in front of the others, if both say something
 abbrev pub in_front : Option Line → Option (List Line) → Option (List Line)
@@ -71,4 +107,4 @@ plain_by p = option_and_then (λ words. option_and_then (ranged words) (lines_fr
 
 -- what a text of the plain form says
 abbrev pub plain_of : List ℕ → Option Plain
-plain_of text = option_and_then plain_by (split_line text)
+plain_of text = option_and_then plain_by (split_at 10 text)

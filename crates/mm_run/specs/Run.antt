@@ -1,5 +1,5 @@
 -- What a run of the program makes of the bytes of a script.
-use Rattle.std.specs.Prelude.{◌≡◌, ℕ, zero, suc, ◌+◌, Bool, true, false, ◌&&◌, List, [], ◌∷◌, codes, String}
+use Rattle.std.specs.Prelude.{◌≡◌, ◌≤◌, ℕ, zero, suc, ◌+◌, Bool, true, false, ◌&&◌, List, [], ◌∷◌, length, codes, String}
 use Rattle.std.specs.Str.{bytes_eq}
 use Rattle.std.specs.String.{string_bytes}
 use Rattle.std.specs.declared.alloc.Global.{Global}
@@ -8,8 +8,9 @@ use Rattle.std.specs.Prelude.{Some, None}
 use Rattle.mm_base.specs.Replay.{replayed}
 use Rattle.mm_base.specs.declared.entry.Entry.{Entry}
 use Rattle.mm_base.specs.declared.text.TextKind.TheVariants.{Unbuilt}
-use Rattle.mm_io.specs.Streams.{GivesAll, GivesAtMost, GivesMoreThan}
-use Rattle.comm_core.specs.Capture.{Mark, course, requests, value_at}
+use Rattle.mm_io.specs.Streams.{Appends, AppendsFront, GivesAll, GivesAtMost, GivesMoreThan}
+use Rattle.comm_core.specs.Capture.{Mark, trace_of, course, requests, value_at, pieces, pieces_in}
+use Rattle.comm_core.specs.Headline.{Headline}
 use Rattle.comm_core.specs.World.{WorldState, StandsFor}
 use Rattle.mm_run.specs.EntryStep.{MachineState, entry_step, scripted}
 use Rattle.mm_run.specs.Plain.{IsPlain, events_in}
@@ -68,19 +69,50 @@ pub record HasReadNoScript (before now : Option (List ℕ)) : Type 0 where
   pub all : GivesAll before now most_bytes bytes
   pub says_none : (plain : Plain) → IsPlain bytes plain → ⊥
 
--- A world was driven through the script that was read: it stands for the script's events from the core without stubs.
+-- A world was driven through the script that was read: it stands for the script's events from the core without stubs. Its
+-- trace and the pieces in it are those of the capture trace, and its entries and lane words are those that the
+-- definitions give for the script.
 pub record WasDriven (before now : Option (List ℕ)) (world : WorldState MachineState) : Type 0 where
   pub plain : Plain
   pub read : HasRead before now plain
   pub stands : StandsFor entry_step scripted (events_in plain) world
   pub words : world.words ≡ plain.words
+  pub size : length world.lane ≡ world.words + 2
+  pub trace : world.trace ≡ trace_of (past_of plain)
+  pub pieces_are : (lane : ℕ) → pieces_in lane world.trace ≡ pieces lane (past_of plain)
   pub entries : world.entries ≡ entries_of plain
   pub lane : world.lane ≡ lane_of plain
 
--- The world that is handed out was driven; there is one.
-abbrev pub HandsOut : Option (List ℕ) → Option (List ℕ) → Option (WorldState MachineState) → Type 0
-HandsOut before now None = ⊥
-HandsOut before now (Some world) = WasDriven before now world
+-- What was written on this status: the whole text where the run ended well, and a front of it where the sink failed.
+abbrev pub Shows : Option (List ℕ) → Option (List ℕ) → Status → List ℕ → Type 0
+Shows before now Done text = Appends before now text
+Shows before now Usage text = ⊥
+Shows before now (BadText line kind) text = ⊥
+Shows before now (ReadFault which) text = ⊥
+Shows before now WriteFault text = AppendsFront before now text
+Shows before now (TooLong which) text = ⊥
+Shows before now NoMemory text = ⊥
+
+-- The headline of a run, as far as it goes. A world was driven through the script that was read, so through every store,
+-- ring and action of it in order; this world has the headline from the core without stubs; and what was written is the
+-- report of this world.
+pub record RunHeadline (before now written_before written_now : Option (List ℕ)) (status : Status) (world : WorldState MachineState) : Type 0 where
+  pub driven : WasDriven before now world
+  pub says : Headline entry_step scripted world
+  pub shown : Shows written_before written_now status (report_of world.entries world.lane)
+
+-- There is a world, and the run has the headline of it.
+abbrev pub HasHeadline : Option (List ℕ) → Option (List ℕ) → Option (List ℕ) → Option (List ℕ) → Status → Option (WorldState MachineState) → Type 0
+HasHeadline before now written_before written_now status None = ⊥
+HasHeadline before now written_before written_now status (Some world) = RunHeadline before now written_before written_now status world
+
+-- A source tells its bytes; they are of the plain form, and no more than a script may have.
+pub record HoldsScript (left : Option (List ℕ)) : Type 0 where
+  pub bytes : List ℕ
+  pub told : left ≡ Some bytes
+  pub within : length bytes ≤ most_bytes
+  pub plain : Plain
+  pub says : IsPlain bytes plain
 
 -- The cause of a refusal: what a source gave, and whether its count of faults rose.
 abbrev pub Refuses : Option (List ℕ) → Option (List ℕ) → Type 0 → Status → Type 0
@@ -128,6 +160,8 @@ RefusesText bytes NoMemory = Unit {0}
 pub record IsDriven (plain : Plain) (made : Made) : Type 0 where
   pub stands : StandsFor entry_step scripted (events_in plain) made.world
   pub words : made.world.words ≡ plain.words
+  pub size : length made.world.lane ≡ made.world.words + 2
+  pub trace : made.world.trace ≡ trace_of (past_of plain)
   pub entries : made.world.entries ≡ entries_of plain
   pub lane : made.world.lane ≡ lane_of plain
   pub text : made.text ≡ report_for plain

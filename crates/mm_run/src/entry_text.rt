@@ -7,6 +7,7 @@ ghost use Rattle.mm_run.specs.Report.{register_words, register_line, shape_line,
 
 use crate::page::Page;
 use crate::record_text::put_invocations;
+use comm_core::HEADER_BYTES;
 use mm_base::{Entry, Guid, NoMemory, Outcome, Request, Saved, Shape};
 
 /// All lines of entry k, at a lane of so many data words.
@@ -40,7 +41,7 @@ fn loads(words: u64, length: u64) -> u64
     ensures { result ≡ loads_of words length }
 {
     let filled = length / 8 + u64::from(length % 8 != 0);
-    if length >= 24 && filled <= words {
+    if length >= HEADER_BYTES && filled <= words {
         1 + filled
     } else {
         1

@@ -5,7 +5,7 @@ ghost use Rattle.mm_run.specs.CommunicateHeader.{header_guid, message as message
 use mm_base::{GUID_BYTES, Guid, guid_at, le_at};
 
 /// How many bytes the header has.
-pub const HEADER_BYTES: usize = 24;
+pub const HEADER_BYTES: usize = comm_core::HEADER_BYTES as usize;
 
 /// The GUID whose handlers the message is for.
 pub fn guid_of(bytes: &[u8]) -> Guid

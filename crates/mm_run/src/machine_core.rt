@@ -155,6 +155,3 @@ fn dispatched(version: &Handler, guid: Guid, request: &Request, rooms: OutcomeRo
         root: root.into_list(),
     }
 }
-
-#[cfg(test)]
-mod tests;

@@ -3,13 +3,17 @@ ghost use Rattle.std.specs.Prelude.{◌≡◌};
 
 use mm_base::{Bytes, List, NoMemory};
 
-/// One line behind the first.
+/// One line behind the first. Words and counts are as they are written; those of a script in range fit `u32`.
 #[derive(Debug, Drop)]
 pub enum Line {
     /// These bytes are stored to the data words, and their number to the length word.
     Fill(Bytes),
+    /// Somebody stores this value to this word of the lane.
+    Poke { word: u64, value: u64 },
     /// The lane's processor is rung, with no registers saved.
     Ring,
+    /// The lane's processor makes so many actions, or fewer where it comes to rest before.
+    Steps(u64),
     /// The lane's processor runs until it rests.
     Run,
 }

@@ -2,7 +2,8 @@
 ghost use Rattle.std.specs.Prelude.{◌≡◌, ◌≤◌, ◌++◌, true, length, All, IfOk, OnOk};
 ghost use Rattle.std.specs.List.{flat_map, list_all};
 ghost use Rattle.mm_base.specs.Numbers.{words_of_bytes};
-ghost use Rattle.mm_run.specs.Plain.{IsInRange, IsOnLane, fits, pokes, events_of, events_in};
+ghost use Rattle.comm_core.specs.World.{IsOfWorld};
+ghost use Rattle.mm_run.specs.Plain.{IsInRange, fits, pokes, events_of, events_in};
 
 use crate::plain::{Line, Plain};
 use comm_core::Event;
@@ -16,7 +17,7 @@ const MOST_BYTES: usize = 4096;
 pub fn events(alloc: Global, plain: &Plain) -> Result<List<Event>, NoMemory>
     requires { IsInRange plain.now }
     ensures value { IfOk result (λ events. events ≡ events_in plain.now) }
-    ensures within { IfOk result (λ events. All (IsOnLane plain.now.words) events) }
+    ensures within { IfOk result (λ events. All (IsOfWorld plain.now.words) events) }
 {
     let mut events = List::new(alloc);
     put_lines(&mut events, plain.words, plain.lines.as_slice())?;
@@ -41,9 +42,18 @@ fn put_line(events: &mut List<Event>, words: u32, line: &Line) -> Result<(), NoM
 {
     match line {
         Line::Fill(bytes) => put_fill(events, bytes.as_slice()),
+        Line::Poke { word, value } => events.push(Event::Poke {
+            lane: 0,
+            word: *word as u32,
+            value: *value,
+        }),
         Line::Ring => events.push(Event::Ring {
             lane: 0,
             saved: Saved::ZERO,
+        }),
+        Line::Steps(count) => events.push(Event::Steps {
+            lane: 0,
+            count: *count as u32,
         }),
         Line::Run => events.push(Event::Run { lane: 0 }),
     }

@@ -1,29 +1,33 @@
 //! How a script of the plain form is read: line by line, each byte once.
-ghost use Rattle.std.specs.Prelude.{◌≡◌, ◌≤◌, [], true, count_by, length, Some, None, MatchOption, IfOk};
+ghost use Rattle.std.specs.Prelude.{◌≡◌, ◌≤◌, ◌^◌, [], count_by, Some, None, MatchOption, IfOk};
 ghost use Rattle.std.specs.List.{list_all};
 ghost use Rattle.std.specs.Option.{option_copied};
-ghost use Rattle.mm_run.specs.Plain.{is_digit, number_on, fits, is_ring, IsPlain, SaysOneThing};
-ghost use Rattle.mm_run.specs.Reader.{Gives, behind as behind_label, split_line as split_of, number_in, lanes_of, line_of, filled, lines_from, are_in_range, plain_of};
-ghost use Rattle.hex.specs.Hex.{decode_of};
+ghost use Rattle.mm_run.specs.Plain.{fits, is_ring, IsPlain, SaysOneThing};
+ghost use Rattle.mm_run.specs.Reader.{Gives, behind as behind_label, split_at as split_of, number_in, lanes_of, line_of, fill_in, numbers_in, poke_in, steps_in, lines_from, are_in_range, plain_of};
 ghost use Rattle.mm_run.specs.declared.plain.Plain.{Plain};
 
 use crate::plain::{Line, Plain, PlainEnd};
+use comm_core::{LEAST_WORDS, MOST_WORDS};
 use hex::FromHexError;
 use mm_base::List;
 use std::alloc::Global;
+use std::str;
 
-/// The most decimal digits of a number.
-const MOST_DIGITS: usize = 10;
+/// The most digits of a decimal number.
+const MOST_DECIMALS: usize = 10;
 
-/// How many data words a lane may have.
-const FEWEST_WORDS: u64 = 3;
+/// The most digits of a hexadecimal number.
+const MOST_HEXADECIMALS: usize = 16;
 
-const MOST_WORDS: u64 = 512;
+/// How many actions a line may step.
+const MOST_STEPS: u64 = 2048;
 
 /// The most lines that ring.
 const MOST_RINGS: usize = 8192;
 
 const LINE_FEED: u8 = 10;
+
+const SPACE: u8 = 32;
 
 /// Reads a script of the plain form. It answers Unbuilt where the text is of no such form; its one other answer is want
 /// of memory.
@@ -42,7 +46,7 @@ pub fn says_one_thing()
 fn plain_in(alloc: Global, text: &[u8]) -> Result<Plain, PlainEnd>
     ensures { Gives (plain_of text.now) result }
 {
-    let Some((first, rest)) = split_line(text) else {
+    let Some((first, rest)) = split_at(text, LINE_FEED) else {
         return Err(PlainEnd::Unbuilt);
     };
     let Some(words) = read_lanes(first) else {
@@ -55,15 +59,15 @@ fn plain_in(alloc: Global, text: &[u8]) -> Result<Plain, PlainEnd>
     Ok(Plain { words, lines })
 }
 
-/// The line that ends at the first line feed, and what stands behind that.
-fn split_line(text: &[u8]) -> Option<(&[u8], &[u8])>
-    ensures { MatchOption result (split_of text.now ≡ None) (λ p. split_of text.now ≡ Some (p.0.now, p.1.now)) }
+/// What stands in front of the first of this byte, and what stands behind it.
+fn split_at(text: &[u8], stop: u8) -> Option<(&[u8], &[u8])>
+    ensures { MatchOption result (split_of stop text.now ≡ None) (λ p. split_of stop text.now ≡ Some (p.0.now, p.1.now)) }
 {
     for (i, byte) in text.iter().enumerate() {
-        if *byte == LINE_FEED {
-            let (line, rest) = text.split_at(i);
+        if *byte == stop {
+            let (front, rest) = text.split_at(i);
             let (_, rest) = rest.split_at(1);
-            return Some((line, rest));
+            return Some((front, rest));
         }
     }
     None
@@ -73,8 +77,8 @@ fn split_line(text: &[u8]) -> Option<(&[u8], &[u8])>
 fn read_lanes(line: &[u8]) -> Option<u32>
     ensures { result ≡ lanes_of line.now }
 {
-    let words = read_number(behind(line, b"lanes 1 ")?)?;
-    if FEWEST_WORDS <= words && words <= MOST_WORDS {
+    let words = read_decimal(behind(line, b"lanes 1 ")?)?;
+    if u64::from(LEAST_WORDS) <= words && words <= u64::from(MOST_WORDS) {
         Some(words as u32)
     } else {
         None
@@ -88,32 +92,34 @@ fn behind<'a>(text: &'a [u8], label: &[u8]) -> Option<&'a [u8]>
     text.strip_prefix(label)
 }
 
-/// A number of 1 to 10 digits.
-fn read_number(text: &[u8]) -> Option<u64>
-    ensures { result ≡ number_in text.now }
+/// A number of 1 to 10 decimal digits.
+fn read_decimal(text: &[u8]) -> Option<u64>
+    ensures { result ≡ number_in 10 10 text.now }
 {
-    if text.is_empty() || text.len() > MOST_DIGITS || !are_digits(text) {
+    read_number(text, 10, MOST_DECIMALS)
+}
+
+/// A number of 1 to 16 hexadecimal digits.
+fn read_hexadecimal(text: &[u8]) -> Option<u64>
+    ensures { result ≡ number_in 16 16 text.now }
+{
+    read_number(text, 16, MOST_HEXADECIMALS)
+}
+
+/// A number of at most so many digits in this base. A plus, which `from_str_radix` takes in front, is no digit.
+fn read_number(text: &[u8], base: u32, most: usize) -> Option<u64>
+    requires low { 2 ≤ base }
+    requires high { base ≤ 36 }
+    requires small { base ^ most ≤ 2 ^ 64 }
+    ensures { result ≡ number_in base most text.now }
+{
+    if text.len() > most || text.starts_with(b"+") {
         return None;
     }
-    Some(number_of(text))
-}
-
-fn are_digits(text: &[u8]) -> bool
-    ensures { result ≡ list_all is_digit text.now }
-{
-    text.iter().all(|&byte| byte >= 48 && byte <= 57)
-}
-
-fn number_of(digits: &[u8]) -> u64
-    requires digits { list_all is_digit digits.now ≡ true }
-    requires high { length digits.now ≤ MOST_DIGITS }
-    ensures { result ≡ number_on 0 digits.now }
-{
-    let mut number = 0;
-    for digit in digits {
-        number = 10 * number + u64::from(*digit - 48);
+    match str::from_utf8(text) {
+        Ok(digits) => u64::from_str_radix(digits, base).ok(),
+        Err(_) => None,
     }
-    number
 }
 
 /// The lines behind the first.
@@ -123,7 +129,7 @@ fn read_lines(alloc: Global, text: &[u8]) -> Result<List<Line>, PlainEnd>
     let mut lines = List::new(alloc);
     let mut rest = text;
     while !rest.is_empty() {
-        let Some((first, others)) = split_line(rest) else {
+        let Some((first, others)) = split_at(rest, LINE_FEED) else {
             return Err(PlainEnd::Unbuilt);
         };
         lines.push(read_line(alloc, first)?)?;
@@ -141,14 +147,30 @@ fn read_line(alloc: Global, line: &[u8]) -> Result<Line, PlainEnd>
     if line == b"run 0".as_slice() {
         return Ok(Line::Run);
     }
-    match behind(line, b"fill 0 ") {
-        Some(digits) => read_fill(alloc, digits),
+    if line == b"step 0".as_slice() {
+        return Ok(Line::Steps(1));
+    }
+    if let Some(digits) = behind(line, b"fill 0 ") {
+        return read_fill(alloc, digits);
+    }
+    match read_numbers(line) {
+        Some(numbers) => Ok(numbers),
         None => Err(PlainEnd::Unbuilt),
     }
 }
 
+/// A line of numbers: a poke, or steps with their count.
+fn read_numbers(line: &[u8]) -> Option<Line>
+    ensures { result ≡ numbers_in line.now }
+{
+    if let Some(numbers) = behind(line, b"poke 0 ") {
+        return read_poke(numbers);
+    }
+    read_steps(behind(line, b"step 0 ")?)
+}
+
 fn read_fill(alloc: Global, digits: &[u8]) -> Result<Line, PlainEnd>
-    ensures { Gives (filled (decode_of digits.now)) result }
+    ensures { Gives (fill_in digits.now) result }
 {
     match hex::decode(alloc, digits) {
         Ok(bytes) => Ok(Line::Fill(List::from_vec(bytes))),
@@ -157,7 +179,25 @@ fn read_fill(alloc: Global, digits: &[u8]) -> Result<Line, PlainEnd>
     }
 }
 
-/// Whether what the lines fill fits so many data words, and there are few enough rings.
+/// A poke, by its word and its value.
+fn read_poke(text: &[u8]) -> Option<Line>
+    ensures { result ≡ poke_in text.now }
+{
+    let (word, value) = split_at(text, SPACE)?;
+    Some(Line::Poke {
+        word: read_decimal(word)?,
+        value: read_hexadecimal(value)?,
+    })
+}
+
+/// Steps, by their count.
+fn read_steps(text: &[u8]) -> Option<Line>
+    ensures { result ≡ steps_in text.now }
+{
+    Some(Line::Steps(read_decimal(text)?))
+}
+
+/// Whether the lines are in range for so many data words, and there are few enough rings.
 fn is_in_range(words: u32, lines: &[Line]) -> bool
     ensures { result ≡ are_in_range words lines.now }
 {
@@ -180,6 +220,8 @@ fn line_fits(words: u32, line: &Line) -> bool
 {
     match line {
         Line::Fill(bytes) => 1 <= bytes.len() && bytes.len() <= 8 * words as usize,
+        Line::Poke { word, .. } => *word < u64::from(words) + 2,
+        Line::Steps(count) => 1 <= *count && *count <= MOST_STEPS,
         Line::Ring | Line::Run => true,
     }
 }
@@ -196,6 +238,3 @@ fn ring_count(lines: &[Line]) -> usize
     }
     count
 }
-
-#[cfg(test)]
-mod tests;

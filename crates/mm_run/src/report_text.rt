@@ -68,6 +68,3 @@ fn put_each_word(page: &mut Page, words: &[u64]) -> Result<(), NoMemory>
     }
     Ok(())
 }
-
-#[cfg(test)]
-mod tests;

@@ -2,7 +2,8 @@
 ghost use Rattle.std.specs.Prelude.{◌≡◌};
 ghost use Rattle.mm_run.specs.Status.{number_of_status, status_of_read};
 
-use mm_base::TextKind;
+use crate::plain::PlainEnd;
+use mm_base::{NoMemory, TextKind};
 use mm_io::ReadEnd;
 
 /// The two sources that a form may name.
@@ -55,6 +56,32 @@ impl Status {
             ReadEnd::Failed => Status::ReadFault(which),
             ReadEnd::TooLong => Status::TooLong(which),
             ReadEnd::NoMemory => Status::NoMemory,
+        }
+    }
+}
+
+impl From<NoMemory> for Status {
+    ghost use Rattle.mm_run.specs.declared.status.Status.TheVariants.{NoMemory as WantsMemory};
+
+    ghost from_gives = { λ _ status. status ≡ WantsMemory };
+
+    fn from(_: NoMemory) -> Self {
+        Status::NoMemory
+    }
+}
+
+impl From<PlainEnd> for Status {
+    ghost use Rattle.mm_run.specs.Status.{status_of_plain};
+
+    ghost from_gives = { λ end status. status ≡ status_of_plain end };
+
+    fn from(end: PlainEnd) -> Self {
+        match end {
+            PlainEnd::Unbuilt => Status::BadText {
+                line: 0,
+                kind: TextKind::Unbuilt,
+            },
+            PlainEnd::NoMemory => Status::NoMemory,
         }
     }
 }

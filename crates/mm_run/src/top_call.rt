@@ -2,16 +2,16 @@
 ghost use Rattle.std.specs.Prelude.{◌≡◌, ◌≤◌, ◌↔◌, ◌⊎◌, Some, List, true, false, None, IfOk, IfErr, OnOk, length};
 ghost use Rattle.mm_io.specs.Causes.{Rose};
 ghost use Rattle.mm_io.specs.Streams.{Appends, AppendsFront, GivesAll, GivesAtMost, GivesMoreThan};
-ghost use Rattle.mm_run.specs.Run.{is_script as is_script_form, most_bytes, report_for, HasRead, WasDriven, HandsOut, Refuses, RefusesText, IsMade, IsDriven, writes, has_no_world};
+ghost use Rattle.mm_run.specs.Run.{is_script as is_script_form, most_bytes, report_for, HasRead, HasHeadline, HoldsScript, Refuses, RefusesText, IsMade, IsDriven, writes, has_no_world};
 ghost use Rattle.mm_run.specs.Plain.{IsPlain, IsInRange, events_in};
 ghost use Rattle.mm_run.specs.EntryStep.{entry_step, scripted as scripted_core};
 ghost use Rattle.comm_core.specs.World.{StandsFor};
 
 use crate::drive::drive;
 use crate::status::{Status, Which};
-use crate::{Core, Plain, PlainEnd, events, read_plain, report, scripted};
+use crate::{Core, Plain, events, read_plain, report, scripted};
 use comm_core::World;
-use mm_base::{Bytes, List, NoMemory, Opening, TextKind};
+use mm_base::{Bytes, List, NoMemory, Opening};
 use mm_io::{Sink, Source, read_all, write_all};
 use std::alloc::Global;
 
@@ -54,8 +54,13 @@ pub fn run<V: Source, S: Source, K: Sink>(
     ensures front { result.status ≡ Status.WriteFault → (plain : Plain) × HasRead (V.left first.old) (V.left first.new) plain × AppendsFront (K.written out.old) (K.written out.new) (report_for plain) }
     ensures nothing { writes result.status ≡ false → out.new ≡ out.old }
 
-    // The world that was driven is handed out.
-    ensures world { writes result.status ≡ true → HandsOut (V.left first.old) (V.left first.new) result.world }
+    // A script that can be read and written is served, want of memory aside.
+    ensures complete { is_script_form words.now.items ≡ true → HoldsScript (V.left first.old) → (Rose (V.fault_count first.old) (V.fault_count first.new) → ⊥) → (Rose (K.fault_count out.old) (K.fault_count out.new) → ⊥) → (result.status ≡ Status.Done) ⊎ (result.status ≡ Status.NoMemory) }
+
+    // The headline, and with it the world that was driven. Whatever the script stores between any two steps, each entry
+    // loads each word of its request exactly once, and the replies, statuses and records are the one-thread core's on the
+    // captured requests, in recorded order.
+    ensures headline { writes result.status ≡ true → HasHeadline (V.left first.old) (V.left first.new) (K.written out.old) (K.written out.new) result.status result.world }
     ensures no_world { has_no_world result.status ≡ true → result.world ≡ None }
 
     // No source is read that the form doesn't name.
@@ -99,10 +104,7 @@ fn make<V: Source>(alloc: Global, first: &mut V) -> Result<Made, Status>
 {
     let bytes = read(alloc, first)?;
     let plain = understood(alloc, bytes.as_slice())?;
-    match driven(alloc, &plain) {
-        Ok(made) => Ok(made),
-        Err(NoMemory) => Err(Status::NoMemory),
-    }
+    Ok(driven(alloc, &plain)?)
 }
 
 /// All bytes of the script.
@@ -121,14 +123,7 @@ fn understood(alloc: Global, bytes: &[u8]) -> Result<Plain, Status>
     ensures ok { IfOk result (IsPlain bytes.now) }
     ensures err { IfErr result (RefusesText bytes.now) }
 {
-    match read_plain(alloc, bytes) {
-        Ok(plain) => Ok(plain),
-        Err(PlainEnd::Unbuilt) => Err(Status::BadText {
-            line: 0,
-            kind: TextKind::Unbuilt,
-        }),
-        Err(PlainEnd::NoMemory) => Err(Status::NoMemory),
-    }
+    Ok(read_plain(alloc, bytes)?)
 }
 
 /// The world that the script drives, and its report.
@@ -175,6 +170,3 @@ fn write<K: Sink>(made: Made, out: &mut K) -> RunEnd
         world: Some(world),
     }
 }
-
-#[cfg(test)]
-mod tests;

@@ -1,7 +1,7 @@
 use Rattle.std.proofs.Common.{◌<◌, length, arith}
 use Rattle.std.proofs.lemmas.Bool.Decides.{nat_tests}
 use Rattle.std.proofs.lemmas.Result.{err_from_is_err_and}
-use Rattle.mm_run.proofs.PlainLemmas.{split_line-shorter, lines_from-turn, lines_from-refused, lines_from-unended}
+use Rattle.mm_run.proofs.PlainLemmas.{split_at-shorter, lines_from-turn, lines_from-refused, lines_from-unended}
 use Rattle.mm_run.proofs.plain_reader.read_lines.Goals as goal
 
 pub returns-in_default : goal.returns-in_default
@@ -17,7 +17,7 @@ returns-in_err-read_line c =
     c.in-Some.ensures (c.in_err-read_line.ensures unbuilt))
 
 pub loop-rest-smaller : goal.loop-rest-smaller
-loop-rest-smaller c = split_line-shorter c.loop-rest.rest.now c.in-Some.first.now c.in-Some.others.now c.in-Some.ensures
+loop-rest-smaller c = split_at-shorter c.loop-rest.rest.now c.in-Some.first.now c.in-Some.others.now c.in-Some.ensures
 
 pub loop-rest-preserved : goal.loop-rest-preserved
 loop-rest-preserved c =

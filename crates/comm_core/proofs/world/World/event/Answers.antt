@@ -1,6 +1,7 @@
 use Rattle.std.proofs.Common.{ℕ, ◌≡◌, ◌+◌, ◌∙◌, length, OnOk, sym, ap, subst, arith}
 use Rattle.comm_core.specs.Capture.{longest}
-use Rattle.comm_core.specs.World.{entries_asked, WorldState, behind_event, acts_times}
+use Rattle.comm_core.specs.World.{entries_asked, WorldState}
+use Rattle.comm_core.specs.Transitions.{behind_event, acts_times}
 use Rattle.comm_core.specs.declared.event.Event.{Event}
 use Rattle.comm_core.proofs.StandsLemmas.{acts_times_asked, stands_for_more, stands_on_ok, acts_times_words}
 use Rattle.comm_core.proofs.world.World.event.Goals as goal

@@ -1,7 +1,8 @@
 use Rattle.std.proofs.Common.{ℕ, length, ◌<◌, ◌∙◌, sym, ap, subst, arith}
 use Rattle.std.proofs.lemmas.List.{get_or_default}
 use Rattle.comm_core.specs.Processor.{next_action, MayLoad}
-use Rattle.comm_core.specs.World.{WorldState, loads_word}
+use Rattle.comm_core.specs.World.{WorldState}
+use Rattle.comm_core.specs.Transitions.{loads_word}
 use Rattle.comm_core.proofs.ReadyLemmas.{may_load, load_within, room_for_load, ready_load}
 use Rattle.comm_core.proofs.WorldViews.{seen_load}
 use Rattle.comm_core.proofs.world.World.load.Goals as goal

@@ -2,7 +2,8 @@ use Rattle.std.proofs.Common.{ℕ, ◌∙◌, sym, ap, arith}
 use Rattle.mm_base.specs.Prepared.{Readied}
 use Rattle.mm_base.specs.Room.{Roomy}
 use Rattle.comm_core.specs.Processor.{IsBlank}
-use Rattle.comm_core.specs.World.{WorldState, rung_at, prepared_for}
+use Rattle.comm_core.specs.World.{WorldState}
+use Rattle.comm_core.specs.Transitions.{rung_at, prepared_for}
 use Rattle.comm_core.specs.declared.trace.Trace.{Trace}
 use Rattle.comm_core.proofs.ReadyLemmas.{may_ring}
 use Rattle.comm_core.proofs.WorldViews.{seen, rung_resting, seen_ring}
@@ -23,10 +24,10 @@ returns-clause-ok g c =
     let resting = sym c.is_resting.ensures ∙ c.if-not-is_resting.false in
     let p = c.in_ok-prepared.prepared in
     let calls = g.M.Machine.most_calls in
-    let m = c.self.inside.machine in
-    let is_for = c.in_ok-prepared.ensures ∙ ap (λ (n : ℕ). prepared_for c.self.inside.words n) c.calls.ensures in
-    let w = seen c.self.inside.words c.self.inside.lane.items c.self.inside.processor m c.self.inside.entries c.self.inside.trace in
-    seen_ring c.self.inside.words c.self.inside.lane.items c.self.inside.processor c.feed.new.self m c.self.inside.entries c.self.inside.trace c.reserve.new.self p c.args.saved
+    let m = c.self.inside.kept.machine in
+    let is_for = c.in_ok-prepared.ensures ∙ ap (λ (n : ℕ). prepared_for c.self.inside.words n) (c.calls.ensures ∙ ap calls c.machine.ensures) in
+    let w = seen c.self.inside.words c.self.inside.lane.items c.self.inside.processor m c.self.inside.kept.entries c.self.inside.trace in
+    seen_ring c.self.inside.words c.self.inside.lane.items c.self.inside.processor c.feed.new.self m c.self.inside.kept.entries c.self.inside.trace c.reserve.new.self p c.args.saved
     c.feed.ensures (ap (λ (t : Roomy Trace). t.items) c.in_ok-reserve.ensures.ok)
     ∙ sym (rung_resting w c.self.inside.processor.stage p c.args.saved resting)
     ∙ ap (λ (x : Readied). rung_at w c.self.inside.processor.stage x c.args.saved) is_for

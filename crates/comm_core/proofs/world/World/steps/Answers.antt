@@ -1,5 +1,6 @@
 use Rattle.std.proofs.Common.{◌-◌, ◌+◌, ◌∙◌, sym, ap, arith}
-use Rattle.comm_core.specs.World.{WorldState, acts_times}
+use Rattle.comm_core.specs.World.{WorldState}
+use Rattle.comm_core.specs.Transitions.{acts_times}
 use Rattle.comm_core.proofs.WorldViews.{rest_stays, acts_one_less}
 use Rattle.comm_core.proofs.world.World.steps.Goals as goal
 

@@ -1,5 +1,5 @@
 use Rattle.std.proofs.Common.{◌≡◌, ◌-◌}
-use Rattle.comm_core.specs.World.{acts_times}
+use Rattle.comm_core.specs.Transitions.{acts_times}
 use Rattle.comm_core.proofs.world.World.steps.Given as goal
 
 -- the actions that are left lead where all lead

@@ -1,7 +1,8 @@
 //! Whole runs over sources and sinks in memory. What is expected was worked out by hand from the definitions.
-use super::*;
+use mm_base::{Bytes, List, NoMemory, TextKind};
 use mm_io::{FileSource, MemorySink, MemorySource};
-use std::alloc::AllocError;
+use mm_run::{Status, Which, run};
+use std::alloc::{AllocError, Global};
 use std::process::Abort;
 use std::test::Fail;
 
@@ -125,6 +126,167 @@ fn a_length_that_stays_0(rt: HostRuntime) -> Result<(), Fail> {
   reply -
 lane 0 length 0000000000000000 status 8000000000000002 data 0000000000000000000000000000000000000000000000000000000000000000
 ",
+    )?;
+    Ok(())
+}
+
+/// The length is captured once: what is stored behind its load does nothing.
+#[test]
+fn a_length_that_is_stored_to(rt: HostRuntime) -> Result<(), Fail> {
+    reports(
+        &rt,
+        rt.alloc(),
+        b"lanes 1 4
+fill 0 31564d4d01000040800000000000000108000000000000000000000000000000
+ring 0
+step 0
+poke 0 0 18
+run 0
+",
+        VERSION_REPORT,
+    )?;
+    Ok(())
+}
+
+/// A length of one byte less than a header is refused by its one load, and stays in the lane.
+#[test]
+fn a_length_below_a_header(rt: HostRuntime) -> Result<(), Fail> {
+    reports(
+        &rt,
+        rt.alloc(),
+        b"lanes 1 4
+poke 0 0 17
+ring 0
+run 0
+",
+        b"entry 0 lane 0 loads 1 status 8000000000000002
+  request 0000000000000017 -
+  refused length
+  reply -
+lane 0 length 0000000000000017 status 8000000000000002 data 0000000000000000000000000000000000000000000000000000000000000000
+",
+    )?;
+    Ok(())
+}
+
+/// A ring away from rest is no entry.
+#[test]
+fn a_second_ring(rt: HostRuntime) -> Result<(), Fail> {
+    reports(
+        &rt,
+        rt.alloc(),
+        b"lanes 1 4
+fill 0 31564d4d01000040800000000000000108000000000000000000000000000000
+ring 0
+step 0
+ring 0
+run 0
+",
+        VERSION_REPORT,
+    )?;
+    Ok(())
+}
+
+/// A storm of stores before and behind each load: the request that was captured never stood in the lane as a whole.
+#[test]
+fn a_storm(rt: HostRuntime) -> Result<(), Fail> {
+    reports(
+        &rt,
+        rt.alloc(),
+        b"lanes 1 4
+poke 0 0 ffffffffffffffff
+poke 0 4 ffffffffffffffff
+poke 0 1 5
+poke 0 0 20
+ring 0
+step 0
+poke 0 0 17
+poke 0 2 400000014d4d5631
+step 0
+poke 0 2 ffffffffffffffff
+poke 0 0 18
+poke 0 5 1
+poke 0 3 0100000000000080
+step 0
+poke 0 3 0
+poke 0 2 1
+poke 0 4 8
+step 0
+poke 0 4 9
+poke 0 0 0
+poke 0 5 1122334455667788
+step 0
+poke 0 5 2
+poke 0 4 7
+step 0
+poke 0 2 3
+poke 0 3 4
+step 0
+poke 0 2 ffffffffffffffff
+run 0
+",
+        b"entry 0 lane 0 loads 5 status 0000000000000000
+  request 0000000000000020 31564d4d01000040800000000000000108000000000000008877665544332211
+  dispatched 4d4d5631-0001-4000-8000-000000000001
+  handler 0 returned 0000000000000000
+  reply 31564d4d01000040800000000000000108000000000000000800010000000000
+lane 0 length 0000000000000020 status 0000000000000000 data ffffffffffffffff800000000000000108000000000000000800010000000000
+",
+    )?;
+    Ok(())
+}
+
+/// An entry whose turn came is printed, also where none of its stores is made.
+#[test]
+fn an_entry_without_its_stores(rt: HostRuntime) -> Result<(), Fail> {
+    reports(
+        &rt,
+        rt.alloc(),
+        b"lanes 1 4
+fill 0 31564d4d01000040800000000000000108000000000000000000000000000000
+ring 0
+step 0 6
+",
+        b"entry 0 lane 0 loads 5 status 0000000000000000
+  request 0000000000000020 31564d4d01000040800000000000000108000000000000000000000000000000
+  dispatched 4d4d5631-0001-4000-8000-000000000001
+  handler 0 returned 0000000000000000
+  reply 31564d4d01000040800000000000000108000000000000000800010000000000
+lane 0 length 0000000000000020 status 0000000000000000 data 31564d4d01000040800000000000000108000000000000000000000000000000
+",
+    )?;
+    Ok(())
+}
+
+/// A ring whose turn did not come is no entry.
+#[test]
+fn a_ring_without_its_turn(rt: HostRuntime) -> Result<(), Fail> {
+    reports(
+        &rt,
+        rt.alloc(),
+        b"lanes 1 4
+fill 0 31564d4d01000040800000000000000108000000000000000000000000000000
+ring 0
+step 0 5
+",
+        b"lane 0 length 0000000000000020 status 0000000000000000 data 31564d4d01000040800000000000000108000000000000000000000000000000
+",
+    )?;
+    Ok(())
+}
+
+/// So many actions as no ring needs are as good as a run.
+#[test]
+fn as_many_steps_as_a_run(rt: HostRuntime) -> Result<(), Fail> {
+    reports(
+        &rt,
+        rt.alloc(),
+        b"lanes 1 4
+fill 0 31564d4d01000040800000000000000108000000000000000000000000000000
+ring 0
+step 0 2048
+",
+        VERSION_REPORT,
     )?;
     Ok(())
 }

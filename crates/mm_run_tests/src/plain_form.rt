@@ -1,7 +1,6 @@
 //! Texts that are of the plain form, and texts that are not.
-use super::*;
-use crate::plain_events::events;
 use comm_core::Event;
+use mm_run::{PlainEnd, events, read_plain};
 use std::test::Fail;
 
 #[test]
@@ -39,9 +38,26 @@ fn poke(word: u32, value: u64) -> Event {
 }
 
 #[test]
+fn pokes_and_steps(rt: HostRuntime) -> Result<(), Fail> {
+    let alloc = rt.alloc();
+    let plain = read_plain(alloc, b"lanes 1 4\npoke 0 05 AbC\nstep 0\nstep 0 2048\n")?;
+    let found = events(alloc, &plain)?;
+    let want = [
+        poke(5, 0xabc),
+        Event::Steps { lane: 0, count: 1 },
+        Event::Steps {
+            lane: 0,
+            count: 2048,
+        },
+    ];
+    assert!(rt; found.as_slice() == want.as_slice());
+    Ok(())
+}
+
+#[test]
 fn texts_of_the_form(rt: HostRuntime) -> Result<(), Fail> {
     let alloc = rt.alloc();
-    let texts: [(&str, u32, usize); 5] = [
+    let texts: [(&str, u32, usize); 12] = [
         ("lanes 1 4\n", 4, 0),
         ("lanes 1 0000000004\n", 4, 0),
         ("lanes 1 3\nfill 0 aBCdef\n", 3, 1),
@@ -51,6 +67,13 @@ fn texts_of_the_form(rt: HostRuntime) -> Result<(), Fail> {
             3,
             1,
         ),
+        ("lanes 1 4\npoke 0 0 0\n", 4, 1),
+        ("lanes 1 4\npoke 0 5 ffffffffffffffff\n", 4, 1),
+        ("lanes 1 4\npoke 0 0000000005 AbC\n", 4, 1),
+        ("lanes 1 4\nstep 0\n", 4, 1),
+        ("lanes 1 4\nstep 0 1\n", 4, 1),
+        ("lanes 1 4\nstep 0 2048\n", 4, 1),
+        ("lanes 1 4\nstep 0 0002048\n", 4, 1),
     ];
     for (text, words, lines) in texts {
         let plain = read_plain(alloc, text.as_bytes())?;
@@ -86,6 +109,23 @@ fn texts_that_are_not(rt: HostRuntime) {
         "lanes 1 3\nfill 0 00000000000000000000000000000000000000000000000000\n",
         "lanes 1 4\n\n",
         "lanes 1 4\nlanes 1 4\n",
+        "lanes 1 4\npoke 0 6 0\n",
+        "lanes 1 4\npoke 0 0 10000000000000000\n",
+        "lanes 1 4\npoke 0 0 \n",
+        "lanes 1 4\npoke 0 0\n",
+        "lanes 1 4\npoke 0  0 0\n",
+        "lanes 1 4\npoke 0 -1 0\n",
+        "lanes 1 4\npoke 0 0 +1\n",
+        "lanes 1 4\npoke 0 0 0x1\n",
+        "lanes 1 4\npoke 0 4294967296 0\n",
+        "lanes 1 4\npoke 1 0 0\n",
+        "lanes 1 4\nstep 0 0\n",
+        "lanes 1 4\nstep 0 2049\n",
+        "lanes 1 4\nstep 0 4294967297\n",
+        "lanes 1 4\nstep 0 \n",
+        "lanes 1 4\nstep 0 +1\n",
+        "lanes 1 4\nstep 1\n",
+        "lanes 1 4\nstep 00\n",
     ];
     for text in texts {
         let read = read_plain(rt.alloc(), text.as_bytes());

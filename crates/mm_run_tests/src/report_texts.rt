@@ -1,11 +1,12 @@
 //! Reports whose text was written by hand from the rules.
 ghost use Rattle.std.specs.Prelude.{◌≡◌, length, IfOk};
 
-use super::*;
 use mm_base::{
-    CellWrite, Denial, Ended, FaultKind, Guid, Invocation, Kind, List, Outcome, Prepared, Right,
-    Saved, Shape, Why,
+    CellWrite, Denial, Ended, Entries, FaultKind, Guid, Invocation, Kind, List, NoMemory, Outcome,
+    Prepared, Right, Saved, Shape, Why,
 };
+use mm_run::report;
+use std::alloc::Global;
 use std::test::Fail;
 
 const VERSION: Guid = Guid([
