@@ -1,5 +1,24 @@
 //! Cells of the platform: ports, model-specific registers and the bytes of the device window.
+ghost use Rattle.std.specs.Prelude.{◌≡◌};
+ghost use Rattle.mm_base.specs.Cells.{is_cell as is_a_cell};
+
 use crate::{Kind, List};
+
+/// How many I/O ports there are.
+pub const PORTS: u64 = 0x1_0000;
+
+/// Where the window of device bytes begins, and how many bytes it has.
+pub const DEVICE_WINDOW: u64 = 0xfe00_0000;
+
+pub const DEVICE_BYTES: u64 = 0x1_0000;
+
+/// How many model-specific registers stand at each end of their numbers, and where the upper ones begin.
+pub const MSRS: u64 = 0x2000;
+
+pub const UPPER_MSRS: u64 = 0xc000_0000;
+
+/// The most that a byte cell holds.
+const MOST_OF_BYTE: u64 = 0xff;
 
 /// A write to `n` cells from `at`. `value` is the number that these cells hold after it.
 #[derive(Clone, Copy, Debug, PartialEq, Eq)]
@@ -14,6 +33,20 @@ pub struct CellWrite {
 #[derive(Debug, Drop)]
 pub struct Opening {
     pub cells: List<CellWrite>,
+}
+
+/// Whether the platform has this cell, and it may hold this value. A device byte is of the kind `Memory`, at its address.
+pub fn is_cell(kind: Kind, at: u64, value: u64) -> bool
+    ensures { result ≡ is_a_cell kind at value }
+{
+    match kind {
+        Kind::Memory => {
+            DEVICE_WINDOW <= at && at < DEVICE_WINDOW + DEVICE_BYTES && value <= MOST_OF_BYTE
+        }
+        Kind::Io => at < PORTS && value <= MOST_OF_BYTE,
+        Kind::Msr => at < MSRS || (UPPER_MSRS <= at && at < UPPER_MSRS + MSRS),
+        Kind::Saved => false,
+    }
 }
 
 /// The registers of the processor that entered, as they were saved: RAX, RBX, RCX, RDX, RSI, RDI, RBP, RSP,

@@ -22,7 +22,9 @@ mod tests;
 mod text;
 
 pub use access::{Denial, Kind, Right, Why};
-pub use cells::{CellWrite, Opening, Saved};
+pub use cells::{
+    CellWrite, DEVICE_BYTES, DEVICE_WINDOW, MSRS, Opening, PORTS, Saved, UPPER_MSRS, is_cell,
+};
 pub use entries::Entries;
 pub use entry::{Entry, Outcome, Request, Shape};
 pub use guid::{GUID_BYTES, GUID_TEXT_BYTES, Guid, guid_at};

@@ -1,5 +1,5 @@
 //! Items with a room that was taken before: the form of whatever is filled without taking memory.
-ghost use Rattle.std.specs.Prelude.{◌≡◌, ◌+◌, ◌≤◌, ◌<◌, max, [], ◌∷◌, ◌++◌, length, take, IfOk, OnOk, OnErr};
+ghost use Rattle.std.specs.Prelude.{◌≡◌, ◌+◌, ◌≤◌, ◌<◌, max, [], ◌∷◌, ◌++◌, length, take, drop, IfOk, OnOk, OnErr};
 
 use crate::{List, NoMemory};
 use std::alloc::Global;
@@ -112,6 +112,17 @@ impl<T: Drop> Room<T> {
 }
 
 impl Room<u8> {
+    /// Writes these bytes over those from `at` on.
+    pub fn overwrite(&mut self, at: usize, bytes: &[u8])
+        requires { at + length bytes.now ≤ length self.old.items }
+        ensures { self.new ≡ record {
+          items = take at self.old.items ++ bytes.now ++ drop (at + length bytes.now) self.old.items;
+          room = self.old.room;
+        } }
+    {
+        self.items[at..at + bytes.len()].copy_from_slice(bytes);
+    }
+
     /// Puts copies of these bytes at the end.
     pub fn extend(&mut self, more: &[u8])
         requires { length self.old.items + length more.now ≤ self.old.room }

@@ -7,7 +7,15 @@ pub const INVALID_PARAMETER: u64 = 0x8000_0000_0000_0002;
 
 pub const UNSUPPORTED: u64 = 0x8000_0000_0000_0003;
 
+pub const OUT_OF_RESOURCES: u64 = 0x8000_0000_0000_0009;
+
 pub const NOT_FOUND: u64 = 0x8000_0000_0000_000e;
+
+pub const ACCESS_DENIED: u64 = 0x8000_0000_0000_000f;
+
+pub const TIMEOUT: u64 = 0x8000_0000_0000_0012;
+
+pub const ABORTED: u64 = 0x8000_0000_0000_0015;
 
 /// An interrupt is pending. The number is this project's own, as are the two below.
 pub const INTERRUPT_PENDING: u64 = 0xa000_0000_0000_0000;

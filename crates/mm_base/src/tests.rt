@@ -2,8 +2,8 @@ ghost use Rattle.std.specs.Prelude.{◌≡◌, ◌≤◌, [], length, IfOk};
 
 use crate::{
     CellWrite, Denial, Ended, Entries, Guid, Invocation, Kind, List, NoMemory, Outcome,
-    OutcomeRooms, Prepared, Receipt, Records, Right, Room, Saved, Shape, Why, guid_at, le_at,
-    status, word_at,
+    OutcomeRooms, Prepared, Receipt, Records, Right, Room, Saved, Shape, Why, guid_at, is_cell,
+    le_at, status, word_at,
 };
 use std::alloc::Global;
 use std::test::Fail;
@@ -230,5 +230,48 @@ fn grows_a_list(rt: HostRuntime) -> Result<(), Fail> {
     list.push(3)?;
     list.extend(&[4, 5])?;
     assert_eq!(rt; list.as_slice(), [1, 2, 3, 4, 5].as_slice());
+    Ok(())
+}
+
+// Cells and values, at both ends of each range.
+const CELLS: [(Kind, u64, u64, bool); 17] = [
+    (Kind::Io, 0, 0xff, true),
+    (Kind::Io, 0xffff, 0, true),
+    (Kind::Io, 0x1_0000, 0, false),
+    (Kind::Io, 0x70, 0x100, false),
+    (Kind::Memory, 0xfdff_ffff, 0, false),
+    (Kind::Memory, 0xfe00_0000, 0xff, true),
+    (Kind::Memory, 0xfe00_ffff, 0, true),
+    (Kind::Memory, 0xfe01_0000, 0, false),
+    (Kind::Memory, 0xfe00_0000, 0x100, false),
+    (Kind::Msr, 0, u64::MAX, true),
+    (Kind::Msr, 0x1fff, 0, true),
+    (Kind::Msr, 0x2000, 0, false),
+    (Kind::Msr, 0xbfff_ffff, 0, false),
+    (Kind::Msr, 0xc000_0000, 0, true),
+    (Kind::Msr, 0xc000_1fff, 0, true),
+    (Kind::Msr, 0xc000_2000, 0, false),
+    (Kind::Saved, 0, 0, false),
+];
+
+#[test]
+fn cells_of_the_platform(rt: HostRuntime) {
+    for (kind, at, value, there) in CELLS {
+        assert_eq!(rt; is_cell(kind, at, value), there, "{at:x} {value:x}");
+    }
+}
+
+/// Five bytes, of which two were overwritten.
+fn overwritten(alloc: Global) -> Result<Room<u8>, NoMemory> {
+    let mut room = Room::new(alloc, 8)?;
+    room.extend(&[1, 2, 3, 4, 5]);
+    room.overwrite(2, &[9, 8]);
+    Ok(room)
+}
+
+#[test]
+fn overwrites_in_place(rt: HostRuntime) -> Result<(), Fail> {
+    let room = overwritten(rt.alloc())?;
+    assert!(rt; room.as_slice() == [1, 2, 9, 8, 5].as_slice());
     Ok(())
 }
