@@ -6,6 +6,7 @@ mod answer;
 mod event;
 pub mod laws;
 mod processor;
+mod script;
 #[cfg(test)]
 mod tests;
 mod trace;
@@ -13,6 +14,7 @@ mod world;
 
 pub use action::Action;
 pub use event::Event;
-pub use processor::{Fed, HEADER_BYTES, LEAST_WORDS, MOST_WORDS, Processor};
+pub use processor::{Fed, LEAST_WORDS, MOST_WORDS, Processor};
+pub use script::Script;
 pub use trace::Trace;
 pub use world::World;

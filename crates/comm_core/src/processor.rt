@@ -5,12 +5,9 @@ ghost use Rattle.comm_core.specs.Processor.{next_action, is_resting as rests_at,
 
 use crate::Action;
 use crate::answer::{answer_at, answer_length};
-use mm_base::{Prepared, Receipt, Saved};
+use mm_base::{HEADER_BYTES, Prepared, Receipt, Saved};
 use std::marker::Model;
 use std::mem;
-
-/// The least length of a request: that of a communicate header.
-pub const HEADER_BYTES: u64 = 24;
 
 /// The least and the most data words of a lane.
 pub const LEAST_WORDS: u32 = 3;

@@ -5,6 +5,9 @@ ghost use Rattle.mm_base.specs.Entry.{blank_entry, is_dispatched as dispatched_s
 use crate::{Guid, Invocation, List, Saved};
 use std::alloc::Global;
 
+/// How many bytes the header of a communicate buffer has: no request is shorter.
+pub const HEADER_BYTES: u64 = 24;
+
 /// What a request is taken for.
 #[derive(Clone, Copy, Debug, PartialEq, Eq)]
 pub enum Shape {

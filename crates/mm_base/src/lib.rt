@@ -26,7 +26,7 @@ pub use cells::{
     CellWrite, DEVICE_BYTES, DEVICE_WINDOW, MSRS, Opening, PORTS, Saved, UPPER_MSRS, is_cell,
 };
 pub use entries::Entries;
-pub use entry::{Entry, Outcome, Request, Shape};
+pub use entry::{Entry, HEADER_BYTES, Outcome, Request, Shape};
 pub use guid::{GUID_BYTES, GUID_TEXT_BYTES, Guid, guid_at};
 pub use handler::{Handler, HandlerBody};
 pub use invocation::{Ended, FaultKind, Invocation, MOST_DENIALS, MOST_WRITES, Records};
