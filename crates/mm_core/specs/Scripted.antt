@@ -1,0 +1,32 @@
+-- The core of a script: the version handler as number 0, the script's stubs from 1 on, and its opening cells.
+use Rattle.std.specs.Prelude.{◌≡◌, ℕ, ◌+◌, Bool, true, false, List, [], ◌∷◌, Some}
+use Rattle.std.specs.List.{All}
+use Rattle.mm_base.specs.declared.cells.CellWrite.{CellWrite}
+use Rattle.mm_base.specs.declared.handler.Handler.{Handler}
+use Rattle.mm_base.specs.declared.handler.HandlerBody.{HandlerBody}
+use Rattle.mm_base.specs.declared.handler.HandlerBody.TheVariants.{Version, Stub, Code}
+use Rattle.mm_core.specs.CoreState.{CoreState}
+use Rattle.mm_core.specs.declared.version.TheConstants.{VERSION_GUID}
+
+-- whether a body is a stub's
+abbrev pub is_stub : HandlerBody → Bool
+is_stub Version = false
+is_stub (Stub status) = true
+is_stub (Code image address) = false
+
+-- each of these handlers is a stub
+abbrev pub AreStubs : List Handler → Type 0
+AreStubs handlers = All (λ handler. is_stub handler.body ≡ true) handlers
+
+-- the handlers, numbered from this number on
+abbrev pub numbered : ℕ → List Handler → List Handler
+numbered number [] = []
+numbered number (handler ∷ handlers) = record { number = number; guid = handler.guid; body = handler.body } ∷ numbered (number + 1) handlers
+
+-- the version handler
+abbrev pub version_handler : Handler
+version_handler = record { number = 0; guid = Some VERSION_GUID; body = Version }
+
+-- the core of a script with these opening cells and stubs
+abbrev pub scripted : List CellWrite → List Handler → CoreState
+scripted cells stubs = record { site = record { handlers = version_handler ∷ numbered 1 stubs }; live = record { cells = cells } }
