@@ -1,0 +1,4 @@
+pub mod Fields
+pub mod Refusal
+pub mod ScriptText
+pub mod TextLaws

@@ -1,0 +1,18 @@
+//! Why a text was not read.
+use mm_base::TextKind;
+
+/// The first refused line of a text, counted from 1, and the first kind that fits it.
+#[derive(Clone, Copy, Debug, PartialEq, Eq)]
+pub struct TextFault {
+    pub line: u32,
+    pub kind: TextKind,
+}
+
+/// Why a text was not read.
+#[derive(Clone, Copy, Debug, PartialEq, Eq)]
+pub enum TextEnd {
+    /// A line is refused.
+    Fault(TextFault),
+    /// Memory was refused.
+    NoMemory,
+}
