@@ -1,4 +1,6 @@
+pub mod Adds
 pub mod Fields
 pub mod Refusal
+pub mod Report
 pub mod ScriptText
 pub mod TextLaws
