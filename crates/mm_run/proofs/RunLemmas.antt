@@ -14,11 +14,12 @@ use Rattle.comm_core.specs.declared.script.Script.{Script}
 use Rattle.comm_core.proofs.HeadlineLemmas.{pieces_told, headline_of}
 use Rattle.mm_core.specs.CoreState.{CoreState}
 use Rattle.mm_core.specs.EntryStep.{core_step}
-use Rattle.mm_text.specs.Limits.{IsWithinLimits}
 use Rattle.mm_text.specs.Refusal.{IsFault}
 use Rattle.mm_text.specs.Report.{report_of, HaveFrontWords}
 use Rattle.mm_text.specs.ScriptText.{IsScript}
 use Rattle.mm_text.specs.declared.text_end.TextFault.{TextFault}
+use Rattle.mm_text.proofs.TextLemmas.{never-both, fault-unique}
+use Rattle.mm_core.specs.EntryLaws.{core_step-within}
 use Rattle.mm_run.specs.declared.status.Status.{Status}
 use Rattle.mm_run.specs.declared.status.Status.TheVariants.{Done, Usage, BadText, ReadFault, WriteFault, TooLong, NoMemory}
 use Rattle.mm_run.specs.declared.status.Which.TheVariants.{First, Second}
@@ -187,7 +188,7 @@ refused_script before now rose Done r h calm = absurd r
 refused_script before now rose Usage r h calm = absurd r
 refused_script before now rose (BadText line kind) r h calm =
     let P : List ℕ → Type 0 = λ bytes. IsScript true bytes h.script in
-    absurd (never_both true r.bytes h.script (record { line = line; kind = kind }) (subst P (given_all before now h.bytes r.bytes h.told r.all) h.says) r.first)
+    absurd (never-both true r.bytes h.script (record { line = line; kind = kind }) (subst P (given_all before now h.bytes r.bytes h.told r.all) h.says) r.first)
 refused_script before now rose (ReadFault First) r h calm = absurd (calm r.0)
 refused_script before now rose (ReadFault Second) r h calm = absurd r
 refused_script before now rose WriteFault r h calm = absurd r
@@ -203,7 +204,7 @@ refused_fault before now rose Done fault r h calm = absurd r
 refused_fault before now rose Usage fault r h calm = absurd r
 refused_fault before now rose (BadText line kind) fault r h calm =
     let P : List ℕ → Type 0 = λ bytes. IsFault true bytes fault in
-    let same = one_fault true r.bytes (record { line = line; kind = kind }) fault r.first (subst P (given_all before now h.bytes r.bytes h.told r.all) h.first) in
+    let same = fault-unique true r.bytes (record { line = line; kind = kind }) fault r.first (subst P (given_all before now h.bytes r.bytes h.told r.all) h.first) in
     inl (ap (λ (f : TextFault). BadText f.line f.kind) same)
 refused_fault before now rose (ReadFault First) fault r h calm = absurd (calm r.0)
 refused_fault before now rose (ReadFault Second) fault r h calm = absurd r
@@ -218,4 +219,4 @@ refused_fault before now rose NoMemory fault r h calm = inr refl
 pub fault_not_read : (before now : Option (List ℕ)) (fault : TextFault) (script : Script) (bytes : List ℕ) → GivesAll before now most_bytes bytes → IsScript true bytes script → HoldsFault before fault → ⊥
 fault_not_read before now fault script bytes all says h =
     let P : List ℕ → Type 0 = λ bs. IsFault true bs fault in
-    never_both true bytes script fault says (subst P (given_all before now h.bytes bytes h.told all) h.first)
+    never-both true bytes script fault says (subst P (given_all before now h.bytes bytes h.told all) h.first)
