@@ -226,8 +226,8 @@ left_is words lanes calls n t r =
     (λ k x here. ap (λ w. to_come w x.processor.stage) (r.each k x here).words_are)
 
 -- a world is ready behind a poke
-pub ready_poke : (words : ℕ) (lanes : List LaneState) (calls n : ℕ) (t u : Roomy Trace) (made : Trace) (lane : ℕ) (at acted : LaneState) (word value : ℕ) → IsReady words lanes calls n t → slice_get lanes lane ≡ Some at → acted ≡ lane_poked at word value → u ≡ record { items = t.items ++ made ∷ []; room = max t.room (length t.items + (records_left lanes + 1)) } → IsReady words (slice_set lanes lane acted) calls n u
-ready_poke words lanes calls n t u made lane at acted word value r there ae ue =
+pub ready_poke : (words : ℕ) (lanes : List LaneState) (calls n left : ℕ) (t reserved u : Roomy Trace) (made : Trace) (lane : ℕ) (at acted : LaneState) (word value : ℕ) → IsReady words lanes calls n t → slice_get lanes lane ≡ Some at → acted ≡ lane_poked at word value → left ≡ records_left lanes → reserved ≡ record { items = t.items; room = max t.room (length t.items + (left + 1)) } → u ≡ record { items = reserved.items ++ made ∷ []; room = reserved.room } → IsReady words (slice_set lanes lane acted) calls n u
+ready_poke words lanes calls n left t reserved u made lane at acted word value r there ae le re ue =
     let P : LaneState → Type 0 = λ x. IsReady words (slice_set lanes lane x) calls n u in
     let now : LaneState = lane_poked at word value in
     let Q : Roomy Trace → Type 0 = λ y. IsReady words (slice_set lanes lane now) calls n y in
@@ -238,12 +238,13 @@ ready_poke words lanes calls n t u made lane at acted word value r there ae ue =
       size = length-set at.values word value ∙ own.size;
       memory = own.memory;
     } in
-    subst P (sym ae) (subst Q (sym ue) record {
+    let room = ue ∙ ap (λ (x : Roomy Trace). record { items = x.items ++ made ∷ []; room = x.room }) re in
+    subst P (sym ae) (subst Q (sym room) record {
       low = r.low;
       high = r.high;
       few = omega (arith, r.few, length-set lanes lane now);
       each = after_set lanes lane now (λ k x. IsLaneReady words calls k x) (slice_get_within lanes lane at there) ready (λ k x apart here. r.each k x here);
-      records = omega (arith, length-append t.items (made ∷ []), r.records, left_is words lanes calls n t r, sum_changed (λ (x : LaneState). to_come words x.processor.stage) lanes lane at now there);
+      records = omega (arith, length-append t.items (made ∷ []), r.records, le, left_is words lanes calls n t r, sum_changed (λ (x : LaneState). to_come words x.processor.stage) lanes lane at now there);
       turns_fit = omega (arith, r.turns_fit, sum_changed (λ (x : LaneState). turns_to_come x.processor.stage) lanes lane at now there);
     })
 
@@ -375,8 +376,8 @@ may_ring words (Turning bytes) prepared e b = absurd cc
 may_ring words (Storing receipt stored) prepared e b = absurd cc
 
 -- a world is ready behind an accepted ring
-pub ready_ring : (words : ℕ) (lanes : List LaneState) (calls n : ℕ) (t u : Roomy Trace) (lane : ℕ) (at acted : LaneState) (prepared : Readied) (saved : Saved) → IsReady words lanes calls n t → slice_get lanes lane ≡ Some at → is_resting at.processor.stage ≡ true → n < 2 ^ 32 → IsRoomy words calls prepared → acted ≡ lane_rung at prepared saved → u ≡ record { items = t.items; room = max t.room (length t.items + (records_left lanes + longest words)) } → IsReady words (slice_set lanes lane acted) calls n u
-ready_ring words lanes calls n t u lane at acted prepared saved r there e few roomy ae ue =
+pub ready_ring : (words : ℕ) (lanes : List LaneState) (calls n left most : ℕ) (t u : Roomy Trace) (lane : ℕ) (at acted : LaneState) (prepared : Readied) (saved : Saved) → IsReady words lanes calls n t → slice_get lanes lane ≡ Some at → is_resting at.processor.stage ≡ true → n < 2 ^ 32 → IsRoomy words calls prepared → acted ≡ lane_rung at prepared saved → left ≡ records_left lanes → most ≡ longest words → u ≡ record { items = t.items; room = max t.room (length t.items + (left + most)) } → IsReady words (slice_set lanes lane acted) calls n u
+ready_ring words lanes calls n left most t u lane at acted prepared saved r there e few roomy ae le me ue =
     let P : LaneState → Type 0 = λ x. IsReady words (slice_set lanes lane x) calls n u in
     let now : LaneState = lane_rung at prepared saved in
     let Q : Roomy Trace → Type 0 = λ y. IsReady words (slice_set lanes lane now) calls n y in
@@ -388,7 +389,7 @@ ready_ring words lanes calls n t u lane at acted prepared saved r there e few ro
       high = r.high;
       few = omega (arith, r.few, counted);
       each = after_set lanes lane now (λ k x. IsLaneReady words calls k x) (slice_get_within lanes lane at there) ready (λ k x apart here. r.each k x here);
-      records = omega (arith, left_is words lanes calls n t r, sum_changed (λ (x : LaneState). to_come words x.processor.stage) lanes lane at now there);
+      records = omega (arith, le, me, left_is words lanes calls n t r, sum_changed (λ (x : LaneState). to_come words x.processor.stage) lanes lane at now there);
       turns_fit = omega (arith, few, r.few, counted, sum_within (λ (x : LaneState). turns_to_come x.processor.stage) 1 (slice_set lanes lane now) (λ x. turns_within x.processor.stage));
     })
 

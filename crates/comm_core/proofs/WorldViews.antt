@@ -9,6 +9,7 @@ use Rattle.mm_base.specs.declared.receipt.Receipt.{Receipt}
 use Rattle.comm_core.specs.Processor.{next_action}
 use Rattle.comm_core.specs.World.{LaneState, WorldState}
 use Rattle.comm_core.specs.Transitions.{lane_at, lane_answered, acts_once, acts_times, goes_on, asked, turns}
+use Rattle.comm_core.specs.declared.action.Action.{Action}
 use Rattle.comm_core.specs.declared.action.Action.TheVariants.{Rest}
 use Rattle.comm_core.specs.declared.trace.Trace.{Trace}
 use Rattle.comm_core.specs.declared.trace.Trace.TheVariants.{Turned}
@@ -40,6 +41,10 @@ seen_turn {M} step words lanes machine now_machine entries now_entries trace now
     ∙ ap (λ x. seen_by words (slice_set lanes lane (lane_answered at (told (length entries) o))) (step machine r).1 x now_trace) entries_are
     ∙ ap (λ x. seen_by words (slice_set lanes lane (lane_answered at (told (length entries) o))) (step machine r).1 (entries ++ record { request = r; outcome = o } ∷ []) x) te
     ∙ ap (turns step w lane) (sym (lane_at-is w lane at there))
+
+-- the world behind the next action, once that is known
+pub acts_next : {M : Type 0} (step : M → Request → Outcome × M) (lane : ℕ) (w v : WorldState M) (a : Action) → next_action w.words (lane_at w lane).processor.stage ≡ a → v ≡ goes_on step w lane (lane_at w lane) a → v ≡ acts_once step lane w
+acts_next step lane w v a next is = is ∙ ap (goes_on step w lane (lane_at w lane)) (sym next)
 
 -- a resting lane does nothing
 pub rest_stays : {M : Type 0} (step : M → Request → Outcome × M) (lane n : ℕ) (w : WorldState M) → next_action w.words (lane_at w lane).processor.stage ≡ Rest → acts_times step lane n w ≡ w

@@ -350,7 +350,7 @@ fn is_asked(entry: &Entry, lane: u32, saved: Saved, second: u64) -> bool {
         && entry.request.length == 24
         && entry.request.saved == saved
         && bytes.len() == 24
-        && bytes[8..16] == second.to_le_bytes()
+        && &bytes[8..16] == second.to_le_bytes().as_slice()
 }
 
 /// The world of two lanes behind the interleaved events.

@@ -1,10 +1,12 @@
 use Rattle.std.proofs.Common.{ℕ, ◌<◌, length, ◌∙◌, sym, ap, subst, arith}
 use Rattle.std.proofs.lemmas.Option.{get_or_from_slice_get}
 use Rattle.comm_core.specs.Processor.{next_action, IsSound}
-use Rattle.comm_core.specs.Transitions.{no_lane, lane_at, goes_on}
+use Rattle.comm_core.specs.Transitions.{no_lane, lane_at}
 use Rattle.comm_core.specs.World.{LaneState, WorldState}
+use Rattle.comm_core.specs.declared.action.Action.TheVariants.{Load, Turn, Store}
 use Rattle.comm_core.proofs.LaneLemmas.{read_there}
 use Rattle.comm_core.proofs.ReadyLemmas.{found_there}
+use Rattle.comm_core.proofs.WorldViews.{acts_next}
 use Rattle.comm_core.proofs.world.World.act.Goals as goal
 
 pub load-requires-clause-next : goal.load-requires-clause-next
@@ -51,8 +53,7 @@ returns-in-Load-clause-acts g c =
     let own = c.self.invariant.each c.args.lane c.index.result.now there in
     let next = ap (λ (v : WorldState _). next_action v.words (lane_at v c.args.lane).processor.stage) (sym c.self.view_is)
     ∙ found_there c.self.inside.words c.self.inside.lanes.items c.args.lane c.index.result.now c.next.result there own.words_are c.next.ensures.next ∙ c.in-Load.is in
-    let w = c.args.self.now in
-    c.load.ensures ∙ ap (goes_on g.M.Machine.stepped w c.args.lane (lane_at w c.args.lane)) (sym next)
+    acts_next g.M.Machine.stepped c.args.lane c.args.self.now c.load.new.self (Load c.in-Load.word) next c.load.ensures
 
 pub returns-in-Turn-clause-acts : goal.returns-in-Turn-clause-acts
 returns-in-Turn-clause-acts g c =
@@ -61,8 +62,7 @@ returns-in-Turn-clause-acts g c =
     let own = c.self.invariant.each c.args.lane c.index.result.now there in
     let next = ap (λ (v : WorldState _). next_action v.words (lane_at v c.args.lane).processor.stage) (sym c.self.view_is)
     ∙ found_there c.self.inside.words c.self.inside.lanes.items c.args.lane c.index.result.now c.next.result there own.words_are c.next.ensures.next ∙ c.in-Turn.is in
-    let w = c.args.self.now in
-    c.turn.ensures ∙ ap (goes_on g.M.Machine.stepped w c.args.lane (lane_at w c.args.lane)) (sym next)
+    acts_next g.M.Machine.stepped c.args.lane c.args.self.now c.turn.new.self Turn next c.turn.ensures
 
 pub returns-in-Store-clause-acts : goal.returns-in-Store-clause-acts
 returns-in-Store-clause-acts g c =
@@ -71,5 +71,4 @@ returns-in-Store-clause-acts g c =
     let own = c.self.invariant.each c.args.lane c.index.result.now there in
     let next = ap (λ (v : WorldState _). next_action v.words (lane_at v c.args.lane).processor.stage) (sym c.self.view_is)
     ∙ found_there c.self.inside.words c.self.inside.lanes.items c.args.lane c.index.result.now c.next.result there own.words_are c.next.ensures.next ∙ c.in-Store.is in
-    let w = c.args.self.now in
-    c.store.ensures ∙ ap (goes_on g.M.Machine.stepped w c.args.lane (lane_at w c.args.lane)) (sym next)
+    acts_next g.M.Machine.stepped c.args.lane c.args.self.now c.store.new.self (Store c.in-Store.word c.in-Store.value) next c.store.ensures

@@ -25,7 +25,7 @@ returns-in-Ring-clause-words g c =
     let ok = subst P (sym c.in-Ring.is) c.ring.ensures.ok in
     let Q : WorldState _ → Type 0 = λ v. v.words ≡ w.words in
     either_way c.ring.result Q w (behind_event step calls w c.args.event.now) c.ring.new.self ok c.ring.ensures.err
-    (behind_event_words step calls w c.args.event.now c.requires.there) (refl)
+    (behind_event_words step calls w c.args.event.now c.requires.there) refl
 
 pub returns-in-Ring-clause-lanes : goal.returns-in-Ring-clause-lanes
 returns-in-Ring-clause-lanes g c =
@@ -36,7 +36,7 @@ returns-in-Ring-clause-lanes g c =
     let ok = subst P (sym c.in-Ring.is) c.ring.ensures.ok in
     let Q : WorldState _ → Type 0 = λ v. length v.lanes ≡ length w.lanes in
     either_way c.ring.result Q w (behind_event step calls w c.args.event.now) c.ring.new.self ok c.ring.ensures.err
-    (behind_event_lanes step calls w c.args.event.now c.requires.there) (refl)
+    (behind_event_lanes step calls w c.args.event.now c.requires.there) refl
 
 pub returns-in-Ring-clause-entries : goal.returns-in-Ring-clause-entries
 returns-in-Ring-clause-entries g c =
@@ -68,7 +68,7 @@ returns-in-Poke-clause-words g c =
     let ok = subst P (sym c.in-Poke.is) c.poke.ensures.ok in
     let Q : WorldState _ → Type 0 = λ v. v.words ≡ w.words in
     either_way c.poke.result Q w (behind_event step calls w c.args.event.now) c.poke.new.self ok c.poke.ensures.err
-    (behind_event_words step calls w c.args.event.now c.requires.there) (refl)
+    (behind_event_words step calls w c.args.event.now c.requires.there) refl
 
 pub returns-in-Poke-clause-lanes : goal.returns-in-Poke-clause-lanes
 returns-in-Poke-clause-lanes g c =
@@ -79,7 +79,7 @@ returns-in-Poke-clause-lanes g c =
     let ok = subst P (sym c.in-Poke.is) c.poke.ensures.ok in
     let Q : WorldState _ → Type 0 = λ v. length v.lanes ≡ length w.lanes in
     either_way c.poke.result Q w (behind_event step calls w c.args.event.now) c.poke.new.self ok c.poke.ensures.err
-    (behind_event_lanes step calls w c.args.event.now c.requires.there) (refl)
+    (behind_event_lanes step calls w c.args.event.now c.requires.there) refl
 
 pub returns-in-Poke-clause-entries : goal.returns-in-Poke-clause-entries
 returns-in-Poke-clause-entries g c =

@@ -1,4 +1,4 @@
-use Rattle.std.proofs.Common.{ℕ, ◌+◌, ◌^◌, ◌<◌, length, max, true, ◌≡◌, ◌∙◌, sym, ap, arith}
+use Rattle.std.proofs.Common.{◌^◌, ◌<◌, length, true, ◌≡◌, ◌∙◌, sym, ap, arith}
 use Rattle.mm_base.specs.Prepared.{Readied}
 use Rattle.comm_core.specs.Processor.{IsBlank, is_resting}
 use Rattle.comm_core.specs.Transitions.{records_left}
@@ -27,7 +27,6 @@ invariant_of-self-2 g c =
     let within : c.args.lane < length c.self.inside.lanes.items = omega (arith, c.requires.lane, ap (λ (v : WorldState _). length v.lanes) c.self.view_is) in
     let there = read_there c.self.inside.lanes.items c.args.lane c.index_mut.result.now within c.index_mut.ensures.value in
     let at = c.index_mut.result.now in
-    let t = c.self.inside.trace in
     let words = c.self.inside.words in
     let calls = g.M.Machine.most_calls in
     let same = same_there c.self.inside.lanes.items c.args.lane c.index.result.now at within c.index.ensures c.index_mut.ensures.value in
@@ -40,9 +39,6 @@ invariant_of-self-2 g c =
       second = omega (arith, ap (λ (p : Readied). p.second) e);
     } in
     let left = c.records_to_come.ensures.value ∙ ap records_left c.as_slice.ensures.value in
-    let room = c.in_ok-reserve.ensures.ok
-    ∙ ap (λ (n : ℕ). record { items = t.items; room = max t.room (length t.items + (n + c.most_actions.result)) }) left
-    ∙ ap (λ (n : ℕ). record { items = t.items; room = max t.room (length t.items + (records_left c.self.inside.lanes.items + n)) }) c.most_actions.ensures in
     let few : length c.self.inside.kept.entries < 2 ^ 32 = omega (arith, c.requires.room, ap (λ (v : WorldState _). length v.entries) c.self.view_is) in
-    ready_ring words c.self.inside.lanes.items (calls c.self.inside.kept.machine) (length c.self.inside.kept.entries) t c.reserve.new.self c.args.lane at c.ring.new.self c.in_ok-prepared.prepared c.args.saved
-    c.self.invariant there resting few roomy c.ring.ensures room
+    ready_ring words c.self.inside.lanes.items (calls c.self.inside.kept.machine) (length c.self.inside.kept.entries) c.records_to_come.result c.most_actions.result c.self.inside.trace c.reserve.new.self
+    c.args.lane at c.ring.new.self c.in_ok-prepared.prepared c.args.saved c.self.invariant there resting few roomy c.ring.ensures left c.most_actions.ensures c.in_ok-reserve.ensures.ok
