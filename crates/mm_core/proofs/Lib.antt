@@ -1,0 +1,4 @@
+pub mod BufferLemmas
+pub mod ChainRunLemmas
+pub mod LawLemmas
+pub mod ScriptLemmas
