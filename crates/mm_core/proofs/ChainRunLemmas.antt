@@ -1,6 +1,6 @@
 -- A chain under way: what is done so far, and what the handlers that are left give, is the whole.
-use Rattle.std.proofs.Common.{◌≡◌, ℕ, zero, suc, ◌+◌, ◌≤◌, ◌<◌, Bool, true, false, cond, if◌then◌else◌, List, [], ◌∷◌, ◌++◌, length, drop, Option, Some, None, slice_get, refl, sym, ap, subst, ◌∙◌, arith, append_assoc, length-append}
-use Rattle.std.specs.Option.{option_eq}
+use Rattle.std.proofs.Common.{◌≡◌, ℕ, zero, suc, ◌+◌, ◌≤◌, ◌<◌, Bool, true, false, cond, not, if◌then◌else◌, List, [], ◌∷◌, ◌++◌, length, drop, Option, Some, None, slice_get, refl, sym, ap, subst, ◌∙◌, arith, append_assoc, length-append}
+use Rattle.std.specs.Option.{option_eq, is_some}
 use Rattle.std.proofs.lemmas.List.{append-nil, drop_all}
 use Rattle.mm_base.specs.Guid.{same_guid}
 use Rattle.mm_base.specs.Room.{Roomy}
@@ -35,23 +35,23 @@ abbrev run_of : CoreState → Handler → Answer → Invoked
 run_of core handler answer = record { invocation = returned handler answer.status; message = answer.message; live = core.live }
 
 -- what is kept at place k of the handlers, from the buffer, invocations and blanks of the start on
-pub record Halfway (core : CoreState) (guid : Option Guid) (saved : Saved) (first : Buffered) (before : Roomy Invocation) (blanks k result : ℕ) (buffer : Buffered) (invocations : Roomy Invocation) (left : ℕ) : Type 0 where
-  pub given : IsGiven (is_root guid) buffer.message
-  pub result : result_from (is_root guid) NOT_FOUND (statuses_of (managed core guid saved first.message)) ≡ result_from (is_root guid) result (statuses_of (left_at core guid saved k buffer.message))
-  pub message : message_behind first.message (managed core guid saved first.message) ≡ message_behind buffer.message (left_at core guid saved k buffer.message)
-  pub buffer : buffer ≡ record first { message = buffer.message }
-  pub invocations : before.items ++ invocations_of (managed core guid saved first.message) ≡ invocations.items ++ invocations_of (left_at core guid saved k buffer.message)
-  pub room : invocations.room ≡ before.room
-  pub place : length invocations.items + length (chain_of guid (drop k core.site.handlers)) ≤ invocations.room
-  pub blanks : left + length (managed core guid saved first.message) ≡ blanks + length (left_at core guid saved k buffer.message)
+pub record Halfway (core : CoreState) (guid : Option Guid) (saved : Saved) (first : Buffered) (before : Roomy Invocation) (most k so_far : ℕ) (held : Buffered) (made : Roomy Invocation) (left : ℕ) : Type 0 where
+  pub given : IsGiven (is_root guid) held.message
+  pub result : result_from (is_root guid) NOT_FOUND (statuses_of (managed core guid saved first.message)) ≡ result_from (is_root guid) so_far (statuses_of (left_at core guid saved k held.message))
+  pub message : message_behind first.message (managed core guid saved first.message) ≡ message_behind held.message (left_at core guid saved k held.message)
+  pub buffer : held ≡ record first { message = held.message }
+  pub invocations : before.items ++ invocations_of (managed core guid saved first.message) ≡ made.items ++ invocations_of (left_at core guid saved k held.message)
+  pub room : made.room ≡ before.room
+  pub place : length made.items + length (chain_of guid (drop k core.site.handlers)) ≤ made.room
+  pub blanks : left + length (managed core guid saved first.message) ≡ most + length (left_at core guid saved k held.message)
   pub enough : length (chain_of guid (drop k core.site.handlers)) ≤ left
 
 -- what stands at the end of the chain
-pub record Managed (core : CoreState) (guid : Option Guid) (saved : Saved) (first : Buffered) (before : Roomy Invocation) (blanks result : ℕ) (buffer : Buffered) (invocations : Roomy Invocation) (left : ℕ) : Type 0 where
-  pub result : result ≡ result_from (is_root guid) NOT_FOUND (statuses_of (managed core guid saved first.message))
-  pub message : buffer ≡ record first { message = message_behind first.message (managed core guid saved first.message) }
-  pub invocations : invocations ≡ record { items = before.items ++ invocations_of (managed core guid saved first.message); room = before.room }
-  pub blanks : left + length (managed core guid saved first.message) ≡ blanks
+pub record Managed (core : CoreState) (guid : Option Guid) (saved : Saved) (first : Buffered) (before : Roomy Invocation) (most so_far : ℕ) (held : Buffered) (made : Roomy Invocation) (left : ℕ) : Type 0 where
+  pub result : so_far ≡ result_from (is_root guid) NOT_FOUND (statuses_of (managed core guid saved first.message))
+  pub message : held ≡ record first { message = message_behind first.message (managed core guid saved first.message) }
+  pub invocations : made ≡ record { items = before.items ++ invocations_of (managed core guid saved first.message); room = before.room }
+  pub blanks : left + length (managed core guid saved first.message) ≡ most
 
 -- at the start all handlers are left
 pub at_start : (core : CoreState) (guid : Option Guid) (saved : Saved) (first : Buffered) (before : Roomy Invocation) (blanks : ℕ) → IsGiven (is_root guid) first.message → length before.items + length (chain_of guid core.site.handlers) ≤ before.room → length (chain_of guid core.site.handlers) ≤ blanks → Halfway core guid saved first before blanks 0 NOT_FOUND first before blanks
@@ -91,7 +91,9 @@ at_end core guid saved first before blanks k result buffer invocations left past
 drop-slice_get : (handlers : List Handler) (k : ℕ) (handler : Handler) → slice_get handlers k ≡ Some handler → drop k handlers ≡ handler ∷ drop (k + 1) handlers
 drop-slice_get [] k handler found = absurd (cc)
 drop-slice_get (first ∷ handlers) zero handler found = ap (λ h. h ∷ handlers) (cc)
-drop-slice_get (first ∷ handlers) (suc k) handler found = drop-slice_get handlers k handler found
+drop-slice_get (first ∷ handlers) (suc k) handler found =
+    let e : suc (k + 1) ≡ suc k + 1 = omega arith in
+    drop-slice_get handlers k handler found ∙ ap (λ n. handler ∷ drop n (first ∷ handlers)) e
 
 chosen_at : (guid : Option Guid) (handlers : List Handler) (k : ℕ) (handler : Handler) (b : Bool) → slice_get handlers k ≡ Some handler → option_eq same_guid handler.guid guid ≡ b → chain_of guid (drop k handlers) ≡ cond b (handler ∷ chain_of guid (drop (k + 1) handlers)) (chain_of guid (drop (k + 1) handlers))
 chosen_at guid handlers k handler b found e =
@@ -187,3 +189,63 @@ stopped core guid saved first before blanks k result buffer invocations left han
       invocations = ap (λ (room : ℕ). record { items = invocations.items ++ returned handler answer.status ∷ []; room = room }) halfway.room ∙ ap (λ (items' : List Invocation). record { items = items'; room = before.room }) (sym items);
       blanks = omega (arith, halfway.blanks, ap length runs);
     }
+
+-- no GUID is given where the root handlers are called
+pub root_is : (guid : Option Guid) (root : Bool) → is_some guid ≡ not root → root ≡ is_root guid
+root_is None true h = refl
+root_is None false h = absurd (cc)
+root_is (Some guid) true h = absurd (cc)
+root_is (Some guid) false h = refl
+
+-- what the code knows of a handler of the chain that it called at place k
+pub record Call (core : CoreState) (guid : Option Guid) (k so_far : ℕ) (held : Buffered) (made : Roomy Invocation) (left : ℕ) (handler : Handler) (root : Bool) (status behind : ℕ) (held_behind : Buffered) (made_behind : Roomy Invocation) (left_behind : ℕ) : Type 0 where
+  pub found : slice_get core.site.handlers k ≡ Some handler
+  pub own : option_eq same_guid handler.guid guid ≡ true
+  pub kind : root ≡ is_root guid
+  pub status_is : status ≡ (answer_of handler.body held.message).status
+  pub held_is : held_behind ≡ record held { message = (answer_of handler.body held.message).message }
+  pub made_is : made_behind ≡ record { items = made.items ++ returned handler (answer_of handler.body held.message).status ∷ []; room = made.room }
+  pub left_is : left_behind + 1 ≡ left
+  pub behind_is : behind ≡ result_behind root so_far status
+
+call_behind : (core : CoreState) (guid : Option Guid) (k so_far : ℕ) (held : Buffered) (made : Roomy Invocation) (left : ℕ) (handler : Handler) (root : Bool) (status behind : ℕ) (held_behind : Buffered) (made_behind : Roomy Invocation) (left_behind : ℕ) → Call core guid k so_far held made left handler root status behind held_behind made_behind left_behind → behind ≡ result_behind (is_root guid) so_far (answer_of handler.body held.message).status
+call_behind core guid k so_far held made left handler root status behind held_behind made_behind left_behind call =
+    call.behind_is ∙ ap (λ r. result_behind r so_far status) call.kind ∙ ap (result_behind (is_root guid) so_far) call.status_is
+
+call_stops : (core : CoreState) (guid : Option Guid) (k so_far : ℕ) (held : Buffered) (made : Roomy Invocation) (left : ℕ) (handler : Handler) (root : Bool) (status behind : ℕ) (held_behind : Buffered) (made_behind : Roomy Invocation) (left_behind : ℕ) → Call core guid k so_far held made left handler root status behind held_behind made_behind left_behind → (b : Bool) → stops root status ≡ b → stops (is_root guid) (answer_of handler.body held.message).status ≡ b
+call_stops core guid k so_far held made left handler root status behind held_behind made_behind left_behind call b is =
+    ap (stops (is_root guid)) (sym call.status_is) ∙ ap (λ r. stops r status) (sym call.kind) ∙ is
+
+-- behind a call that goes on
+pub goes_on : (core : CoreState) (guid : Option Guid) (saved : Saved) (first : Buffered) (before : Roomy Invocation) (most k so_far : ℕ) (held : Buffered) (made : Roomy Invocation) (left : ℕ) (handler : Handler) (root : Bool) (status behind : ℕ) (held_behind : Buffered) (made_behind : Roomy Invocation) (left_behind : ℕ) → Halfway core guid saved first before most k so_far held made left → Call core guid k so_far held made left handler root status behind held_behind made_behind left_behind → stops root status ≡ false → Halfway core guid saved first before most (k + 1) behind held_behind made_behind left_behind
+goes_on core guid saved first before most k so_far held made left handler root status behind held_behind made_behind left_behind halfway call is =
+    let answer = answer_of handler.body held.message in
+    let At : ℕ → Buffered → Roomy Invocation → Type 0 = λ r h m. Halfway core guid saved first before most (k + 1) r h m left_behind in
+    let r : ℕ = result_behind (is_root guid) so_far answer.status in
+    let h : Buffered = record held { message = answer.message } in
+    subst (λ (r' : ℕ). At r' held_behind made_behind) (sym (call_behind core guid k so_far held made left handler root status behind held_behind made_behind left_behind call))
+    (subst (λ (h' : Buffered). At r h' made_behind) (sym call.held_is)
+    (subst (At r h) (sym call.made_is)
+    (called core guid saved first before most k so_far held made left handler call.found call.own (call_stops core guid k so_far held made left handler root status behind held_behind made_behind left_behind call false is) left_behind call.left_is halfway)))
+
+-- behind a call that stops the chain
+pub ends : (core : CoreState) (guid : Option Guid) (saved : Saved) (first : Buffered) (before : Roomy Invocation) (most k so_far : ℕ) (held : Buffered) (made : Roomy Invocation) (left : ℕ) (handler : Handler) (root : Bool) (status behind : ℕ) (held_behind : Buffered) (made_behind : Roomy Invocation) (left_behind : ℕ) → Halfway core guid saved first before most k so_far held made left → Call core guid k so_far held made left handler root status behind held_behind made_behind left_behind → stops root status ≡ true → Managed core guid saved first before most behind held_behind made_behind left_behind
+ends core guid saved first before most k so_far held made left handler root status behind held_behind made_behind left_behind halfway call is =
+    let answer = answer_of handler.body held.message in
+    let At : ℕ → Buffered → Roomy Invocation → Type 0 = λ r h m. Managed core guid saved first before most r h m left_behind in
+    let r : ℕ = result_behind (is_root guid) so_far answer.status in
+    let h : Buffered = record held { message = answer.message } in
+    subst (λ (r' : ℕ). At r' held_behind made_behind) (sym (call_behind core guid k so_far held made left handler root status behind held_behind made_behind left_behind call))
+    (subst (λ (h' : Buffered). At r h' made_behind) (sym call.held_is)
+    (subst (At r h) (sym call.made_is)
+    (stopped core guid saved first before most k so_far held made left handler call.found call.own (call_stops core guid k so_far held made left handler root status behind held_behind made_behind left_behind call true is) left_behind call.left_is halfway)))
+
+-- behind a handler that isn't called
+pub goes_past : (core : CoreState) (guid : Option Guid) (saved : Saved) (first : Buffered) (before : Roomy Invocation) (most k so_far : ℕ) (held : Buffered) (made : Roomy Invocation) (left : ℕ) (handler : Handler) (behind : ℕ) (held_behind : Buffered) (made_behind : Roomy Invocation) (left_behind : ℕ) → Halfway core guid saved first before most k so_far held made left → slice_get core.site.handlers k ≡ Some handler → option_eq same_guid handler.guid guid ≡ false → behind ≡ so_far → held_behind ≡ held → made_behind ≡ made → left_behind ≡ left → Halfway core guid saved first before most (k + 1) behind held_behind made_behind left_behind
+goes_past core guid saved first before most k so_far held made left handler behind held_behind made_behind left_behind halfway found other r h m l =
+    let At : ℕ → Buffered → Roomy Invocation → ℕ → Type 0 = λ r' h' m' l'. Halfway core guid saved first before most (k + 1) r' h' m' l' in
+    subst (λ (r' : ℕ). At r' held_behind made_behind left_behind) (sym r)
+    (subst (λ (h' : Buffered). At so_far h' made_behind left_behind) (sym h)
+    (subst (λ (m' : Roomy Invocation). At so_far held m' left_behind) (sym m)
+    (subst (At so_far held made) (sym l)
+    (passed core guid saved first before most k so_far held made left handler found other halfway))))
