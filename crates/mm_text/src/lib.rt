@@ -2,6 +2,7 @@
 #![tactic(auto)]
 
 mod line;
+mod line_reader;
 mod text_end;
 
 pub use line::{CellKind, Keyword, Line, Named};
