@@ -124,7 +124,7 @@ pair_in-spelled named word s =
     ap (λ w. option_and_then pair_by (split_at 61 w)) s.whole
     ∙ ap (option_and_then pair_by) (split_at-first 61 s.first s.second (digits-clean 10 61 (omega arith) s.first s.one.digits))
     ∙ ap (λ r. option_and_then (λ register. option_and_then (λ value. Some (record { register = register; value = value })) (hexadecimal_in s.second)) r)
-      (number_in-spelled 10 10 named.register s.first s.one)
+    (number_in-spelled 10 10 named.register s.first s.one)
     ∙ ap (λ v. option_and_then (λ value. Some (record { register = named.register; value = value })) v) (number_in-spelled 16 16 named.value s.second s.other)
 
 -- a word with a `=` has one

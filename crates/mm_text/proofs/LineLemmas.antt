@@ -141,7 +141,7 @@ unfolding lanes_in
 lanes_in-spelled lanes words behind s =
     ap lanes_in (two_words SpellsField (Decimal lanes) (Decimal words) behind s)
     ∙ two-said (decimal_in s.first) (decimal_in s.rest.first) Lanes lanes words (number_in-spelled 10 10 lanes s.first s.one)
-      (number_in-spelled 10 10 words s.rest.first s.rest.one)
+    (number_in-spelled 10 10 words s.rest.first s.rest.one)
 
 cell_in-is : (words : List (List ℕ)) (line : Line) → cell_in words ≡ Some line → Reads keyword.Cell words line
 unfolding cell_in
@@ -154,7 +154,7 @@ cell_in-is (a ∷ b ∷ c ∷ []) line e =
     subst P said.made (record {
       same = refl;
       spelled = three_fields SpellsField (Letters (letters_of_cells said.a)) (Hexadecimal said.b) (Hexadecimal said.c) a b c
-        (cells_in-is said.a a said.one) (number_in-is 16 16 said.b b said.other) (number_in-is 16 16 said.c c said.last);
+          (cells_in-is said.a a said.one) (number_in-is 16 16 said.b b said.other) (number_in-is 16 16 said.c c said.last);
     })
 cell_in-is (a ∷ b ∷ c ∷ d ∷ more) line e = absurd (none-some _ e)
 
@@ -164,8 +164,8 @@ unfolding cell_in
 cell_in-spelled kind at value behind s =
     ap cell_in (three_words SpellsField (Letters (letters_of_cells kind)) (Hexadecimal at) (Hexadecimal value) behind s)
     ∙ three-said (cells_in s.first) (hexadecimal_in s.rest.first) (hexadecimal_in s.rest.rest.first) Cell kind at value
-      (cells_in-spelled kind s.first s.one) (number_in-spelled 16 16 at s.rest.first s.rest.one)
-      (number_in-spelled 16 16 value s.rest.rest.first s.rest.rest.one)
+    (cells_in-spelled kind s.first s.one) (number_in-spelled 16 16 at s.rest.first s.rest.one)
+    (number_in-spelled 16 16 value s.rest.rest.first s.rest.rest.one)
 
 handler_in-is : (words : List (List ℕ)) (line : Line) → handler_in words ≡ Some line → Reads keyword.Handler words line
 unfolding handler_in
@@ -186,7 +186,7 @@ unfolding handler_in
 handler_in-spelled guid status behind s =
     ap handler_in (two_words SpellsField (owner_field guid) (Hexadecimal status) behind s)
     ∙ two-said (owner_in s.first) (hexadecimal_in s.rest.first) Handler guid status (owner_in-spelled guid s.first s.one)
-      (number_in-spelled 16 16 status s.rest.first s.rest.one)
+    (number_in-spelled 16 16 status s.rest.first s.rest.one)
 
 poke_in-is : (words : List (List ℕ)) (line : Line) → poke_in words ≡ Some line → Reads keyword.Poke words line
 unfolding poke_in
@@ -199,7 +199,7 @@ poke_in-is (a ∷ b ∷ c ∷ []) line e =
     subst P said.made (record {
       same = refl;
       spelled = three_fields SpellsField (Decimal said.a) (Decimal said.b) (Hexadecimal said.c) a b c
-        (number_in-is 10 10 said.a a said.one) (number_in-is 10 10 said.b b said.other) (number_in-is 16 16 said.c c said.last);
+          (number_in-is 10 10 said.a a said.one) (number_in-is 10 10 said.b b said.other) (number_in-is 16 16 said.c c said.last);
     })
 poke_in-is (a ∷ b ∷ c ∷ d ∷ more) line e = absurd (none-some _ e)
 
@@ -209,8 +209,8 @@ unfolding poke_in
 poke_in-spelled lane word value behind s =
     ap poke_in (three_words SpellsField (Decimal lane) (Decimal word) (Hexadecimal value) behind s)
     ∙ three-said (decimal_in s.first) (decimal_in s.rest.first) (hexadecimal_in s.rest.rest.first) Poke lane word value
-      (number_in-spelled 10 10 lane s.first s.one) (number_in-spelled 10 10 word s.rest.first s.rest.one)
-      (number_in-spelled 16 16 value s.rest.rest.first s.rest.rest.one)
+    (number_in-spelled 10 10 lane s.first s.one) (number_in-spelled 10 10 word s.rest.first s.rest.one)
+    (number_in-spelled 16 16 value s.rest.rest.first s.rest.rest.one)
 
 fill_in-is : (words : List (List ℕ)) (line : Line) → fill_in words ≡ Some line → Reads keyword.Fill words line
 unfolding fill_in
@@ -231,7 +231,7 @@ unfolding fill_in
 fill_in-spelled lane bytes behind s =
     ap fill_in (two_words SpellsField (Decimal lane) (Bytes bytes) behind s)
     ∙ two-said (decimal_in s.first) (bytes_in s.rest.first) Fill lane bytes (number_in-spelled 10 10 lane s.first s.one)
-      (bytes_in-spelled bytes s.rest.first s.rest.one)
+    (bytes_in-spelled bytes s.rest.first s.rest.one)
 
 pairs_by : (word : List ℕ) (words : List (List ℕ)) (registers : List Named) (first : Option Named) (others : Option (List Named))
     → pair_in word ≡ first → ((more : List Named) → others ≡ Some more → Each SpellsField (map Pair more) words)
@@ -274,7 +274,7 @@ unfolding ring_in
 ring_in-spelled lane registers behind s =
     ap ring_in s.whole
     ∙ two-said (decimal_in s.first) (pairs_in s.others) Ring lane registers (number_in-spelled 10 10 lane s.first s.one)
-      (pairs_in-spelled registers s.others s.rest)
+    (pairs_in-spelled registers s.others s.rest)
 
 step_in-is : (words : List (List ℕ)) (line : Line) → step_in words ≡ Some line → Reads keyword.Step words line
 unfolding step_in
@@ -303,7 +303,7 @@ unfolding step_in
 step_in-two lane count behind s =
     ap step_in (two_words SpellsField (Decimal lane) (Decimal count) behind s)
     ∙ two-said (decimal_in s.first) (decimal_in s.rest.first) Steps lane count (number_in-spelled 10 10 lane s.first s.one)
-      (number_in-spelled 10 10 count s.rest.first s.rest.one)
+    (number_in-spelled 10 10 count s.rest.first s.rest.one)
 
 run_in-is : (words : List (List ℕ)) (line : Line) → run_in words ≡ Some line → Reads keyword.Run words line
 unfolding run_in
