@@ -2,3 +2,4 @@ pub mod NumberLemmas
 pub mod FieldLemmas
 pub mod LineLemmas
 pub mod ReadLemmas
+pub mod GuidLemmas
