@@ -8,7 +8,7 @@ use Rattle.mm_text.proofs.line_reader.read_fill.Goals as goal
 pub returns-in-len2 : goal.returns-in-len2
 returns-in-len2 c =
     given_as _ _ _
-    (judged_two (λ w. w.now) c.args.words.now _ _ (form_behind keyword.Fill) fill_in fill_form (omega arith) (omega arith)) c.fill_by.ensures
+    (judged_two (λ w. w.now) c.args.words.now _ _ (form_behind keyword.Fill) fill_in fill_form (omega arith) (omega arith)) c.fill_line.ensures
 
 pub returns-in_default : goal.returns-in_default
 returns-in_default c = sym (judged_refused _ _ (not_fill (λ w. w.now) c.args.words.now (λ same. grind (arith, nat_tests))))

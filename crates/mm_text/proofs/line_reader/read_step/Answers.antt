@@ -7,11 +7,11 @@ use Rattle.mm_text.proofs.line_reader.read_step.Goals as goal
 
 pub returns-in-len1 : goal.returns-in-len1
 returns-in-len1 c =
-    c.step_by.ensures ∙ judged_one (λ w. w.now) c.args.words.now _ (form_behind keyword.Step) step_in step_form (omega arith) (omega arith)
+    c.step_line.ensures ∙ judged_one (λ w. w.now) c.args.words.now _ (form_behind keyword.Step) step_in step_form (omega arith) (omega arith)
 
 pub returns-in-len2 : goal.returns-in-len2
 returns-in-len2 c =
-    c.steps_by.ensures ∙ judged_two (λ w. w.now) c.args.words.now _ _ (form_behind keyword.Step) step_in steps_form (omega arith) (omega arith)
+    c.steps_line.ensures ∙ judged_two (λ w. w.now) c.args.words.now _ _ (form_behind keyword.Step) step_in steps_form (omega arith) (omega arith)
 
 pub returns-in_default : goal.returns-in_default
 returns-in_default c =
