@@ -1,1 +1,5 @@
-pub mod PageLemmas
+pub mod NumberLemmas
+pub mod FieldLemmas
+pub mod LineLemmas
+pub mod ReadLemmas
+pub mod GuidLemmas

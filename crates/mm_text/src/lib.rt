@@ -1,13 +1,13 @@
 //! Texts: scripts as they are read, and reports as they are written.
 #![tactic(auto)]
 
-mod entry_text;
+mod fields;
+mod keyword;
 mod line;
-mod page;
-mod record_text;
-mod report_text;
+mod line_reader;
 mod text_end;
 
+pub use keyword::keyword_in;
 pub use line::{CellKind, Keyword, Line, Named};
-pub use report_text::{Parts, report};
+pub use line_reader::{LineEnd, read_line};
 pub use text_end::{TextEnd, TextFault};
