@@ -1,8 +1,15 @@
 //! Texts: scripts as they are read, and reports as they are written.
 #![tactic(auto)]
 
+mod keyword;
+pub mod laws;
 mod line;
+mod line_reader;
+mod registers;
+mod script_builder;
+mod script_reader;
 mod text_end;
 
 pub use line::{CellKind, Keyword, Line, Named};
+pub use script_reader::read_script;
 pub use text_end::{TextEnd, TextFault};

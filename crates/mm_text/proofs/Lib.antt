@@ -1,0 +1,9 @@
+pub mod BuilderLemmas
+pub mod EventLemmas
+pub mod JudgeLemmas
+pub mod LimitLemmas
+pub mod LineLemmas
+pub mod ReaderLemmas
+pub mod RegisterLemmas
+pub mod SaysLemmas
+pub mod TextLemmas
