@@ -8,7 +8,7 @@ use Rattle.mm_text.specs.Fields.{Spells, HasForm, letters_of, keyword_of}
 use Rattle.mm_text.specs.ScriptText.{is_of_text, may_stand, is_in_range, IsAccepted}
 use Rattle.mm_text.specs.Refusal.{first_of, IsKeyword, Fits, rank, IsRefused}
 use Rattle.mm_text.specs.LineReader.{line_in, has_form, keyword_of_word}
-use Rattle.mm_text.proofs.LineLemmas.{spells_unique, spells_form, keyword_unique, spells_keyword, form_keyword, line_in-spells, spells-line_in, has_form-true, form-has_form, keyword_of_word-is, keyword_of_word-letters}
+use Rattle.mm_text.proofs.LineLemmas.{spells_unique, spells_form, keyword_unique, spells_keyword, form_keyword, line_in-spells, spells-line_in, has_form-true, form-has_form, keyword_of_word-is, keyword_of_word-spelled}
 use Rattle.mm_text.specs.declared.line.Keyword.{Keyword}
 use Rattle.mm_text.specs.declared.line.Line.{Line}
 
@@ -193,9 +193,9 @@ judged_of_text handlers before words keyword k false e =
 judged_keyword : (handlers : Bool) (before : List Line) (words : List (List ℕ)) (found : Option Keyword) → keyword_of_word (first_of words) ≡ found
     → Judged handlers before words
 judged_keyword handlers before words None e =
-    inr (Unknown, refused-unknown handlers before words (λ other is. none-some other (sym e ∙ keyword_of_word-letters (first_of words) other is.1)))
+    inr (Unknown, refused-unknown handlers before words (λ other is. none-some other (sym e ∙ keyword_of_word-spelled other (first_of words) (sym is.1))))
 judged_keyword handlers before words (Some keyword) e =
-    judged_of_text handlers before words keyword (keyword_of_word-is (first_of words) keyword e) (is_of_text handlers keyword) refl
+    judged_of_text handlers before words keyword (sym (keyword_of_word-is keyword (first_of words) e)) (is_of_text handlers keyword) refl
 
 pub judged : (handlers : Bool) (before : List Line) (words : List (List ℕ)) → Judged handlers before words
 judged handlers before words = judged_keyword handlers before words (keyword_of_word (first_of words)) refl

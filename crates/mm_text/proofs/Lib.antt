@@ -1,8 +1,10 @@
 pub mod BuilderLemmas
 pub mod EventLemmas
+pub mod FieldLemmas
 pub mod JudgeLemmas
 pub mod LimitLemmas
 pub mod LineLemmas
+pub mod NumberLemmas
 pub mod ReaderLemmas
 pub mod RegisterLemmas
 pub mod SaysLemmas

@@ -1,6 +1,7 @@
 //! Texts: scripts as they are read, and reports as they are written.
 #![tactic(auto)]
 
+mod fields;
 mod keyword;
 pub mod laws;
 mod line;

@@ -1,0 +1,16 @@
+use Rattle.std.proofs.Common.{◌∙◌, ◌≤◌, sym, subst, length, arith, List, ℕ}
+use Rattle.std.specs.Str.Parse.{ParsesUnsigned}
+use Rattle.mm_text.proofs.NumberLemmas.{number-bytes, no_plus, number-parsed}
+use Rattle.mm_text.proofs.fields.read_number.Goals as goal
+
+pub returns-in-Err : goal.returns-in-Err
+returns-in-Err c = sym (number-bytes c.args.base c.args.most c.args.word.now c.requires.high c.in-Err.ensures.cases.0)
+
+pub returns-in-Ok : goal.returns-in-Ok
+returns-in-Ok c =
+    let few : length c.args.word.now ≤ c.args.most = omega arith in
+    let P : List ℕ → Type 0 = λ t. ParsesUnsigned 64 c.args.base t c.from_str_radix.result in
+    c.ok.ensures.value
+    ∙ number-parsed c.args.base c.args.most c.args.word.now c.from_str_radix.result c.requires.low c.requires.small few
+    (no_plus c.args.word.now (sym c.starts_with.ensures.value ∙ c.if-starts_with.false))
+    (subst P c.in-Ok.ensures.cases.0 c.from_str_radix.ensures.value)
