@@ -9,6 +9,8 @@ mod line_reader;
 mod registers;
 mod script_builder;
 mod script_reader;
+#[cfg(test)]
+mod tests;
 mod text_end;
 
 pub use line::{CellKind, Keyword, Line, Named};

@@ -8,7 +8,9 @@ ghost use Rattle.mm_text.specs.declared.line.Keyword.TheVariants as keywords;
 ghost use Rattle.mm_text.specs.declared.line.Line.{Line};
 ghost use Rattle.mm_text.specs.declared.line_reader.LineEnd.TheVariants.{Words, Number};
 
-use crate::fields::{has_equals, read_bytes, read_cells, read_decimal, read_hexadecimal, read_owner, read_pair};
+use crate::fields::{
+    has_equals, read_bytes, read_cells, read_decimal, read_hexadecimal, read_owner, read_pair,
+};
 use crate::line::{Keyword, Line, Named};
 use mm_base::{List, NoMemory};
 use std::alloc::Global;
