@@ -9,4 +9,6 @@ mod report_texts;
 #[cfg(test)]
 mod running;
 #[cfg(test)]
+mod script_texts;
+#[cfg(test)]
 mod whole_runs;

@@ -1,5 +1,14 @@
-pub mod NumberLemmas
+pub mod BuilderLemmas
+pub mod EventLemmas
 pub mod FieldLemmas
-pub mod LineLemmas
-pub mod ReadLemmas
 pub mod GuidLemmas
+pub mod JudgeLemmas
+pub mod LimitLemmas
+pub mod LineLemmas
+pub mod NumberLemmas
+pub mod PageLemmas
+pub mod ReadLemmas
+pub mod ReaderLemmas
+pub mod RegisterLemmas
+pub mod SaysLemmas
+pub mod TextLemmas

@@ -1,14 +1,14 @@
 -- Laws of the script text: a text spells one script, or has one fault, and not both.
-use Rattle.std.specs.Prelude.{◌≡◌, ℕ, ◌<◌, ◌⊎◌, Bool, List, All}
+use Rattle.std.specs.Prelude.{◌≡◌, ℕ, ◌⊎◌, Bool, List}
 use Rattle.comm_core.specs.declared.script.Script.{Script}
 use Rattle.mm_text.specs.ScriptText.{IsScript}
 use Rattle.mm_text.specs.Refusal.{IsFault}
 use Rattle.mm_text.specs.declared.text_end.TextFault.{TextFault}
 
--- each text of bytes spells a script or has a fault
+-- each text spells a script or has a fault
 abbrev pub EitherOr : Type 0
 EitherOr =
-    (handlers : Bool) (text : List ℕ) → All (λ byte. byte < 256) text
+    (handlers : Bool) (text : List ℕ)
     → ((script : Script) × IsScript handlers text script) ⊎ ((fault : TextFault) × IsFault handlers text fault)
 
 -- none does both
