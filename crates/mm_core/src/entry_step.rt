@@ -1,10 +1,11 @@
 //! The entry step: what a core makes of one captured request.
-ghost use Rattle.std.specs.Prelude.{◌≡◌, ◌≤◌, ◌+◌, [], Some, None, length, vec_len};
+ghost use Rattle.std.specs.Prelude.{◌≡◌, ◌≤◌, ◌+◌, ◌==◌, if◌then◌else◌, [], length, vec_len};
+ghost use Rattle.mm_base.specs.declared.status.TheConstants.{SUCCESS, NOT_FOUND};
 ghost use Rattle.mm_base.specs.declared.entry.Shape.TheVariants.{Dispatched};
-ghost use Rattle.mmi_registry.specs.Handlers.{chain_of};
 ghost use Rattle.mm_core.specs.EntryStep.{shape_of as shape_in, entry_step};
 ghost use Rattle.mm_core.specs.HandlerChain.{invocations_of};
 ghost use Rattle.mm_core.specs.Invoked.{no_message};
+ghost use Rattle.mm_core.specs.Laws.{IsAddressed};
 ghost use Rattle.mm_core.specs.StepParts.{chain_in, status_in, reply_in};
 
 use crate::buffer::Buffer;
@@ -108,7 +109,7 @@ fn dispatch(
     chain: &mut Room<Invocation>,
     blanks: &mut Vec<Records>,
 ) -> u64
-    requires shape { shape_in core.now.site request.now ≡ Dispatched guid }
+    requires addressed { IsAddressed core.now.site request.now guid }
     requires buffer { buffer.old ≡ record { front = []; message = no_message; room = buffer.old.room } }
     requires reply_room { length request.now.bytes ≤ buffer.old.room }
     requires chain { chain.old.items ≡ [] }
@@ -123,7 +124,14 @@ fn dispatch(
     buffer.open(header, message);
     let result = manage(core, Some(guid), request.saved, buffer, chain, blanks);
     buffer.close(message.len());
-    if result == SUCCESS {
+    entry_status(result)
+}
+
+/// The status of an entry whose chain comes to this.
+fn entry_status(comes_to: u64) -> u64
+    ensures { result ≡ (if comes_to == SUCCESS then SUCCESS else NOT_FOUND) }
+{
+    if comes_to == SUCCESS {
         SUCCESS
     } else {
         NOT_FOUND
