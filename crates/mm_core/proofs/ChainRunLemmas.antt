@@ -130,7 +130,7 @@ left_at-called core guid saved k message handler found own given =
     ∙ ap (λ (m : Message). run_of core handler (answer_of handler.body m) ∷ (if stops (is_root guid) (answer_of handler.body m).status then [] else through_stop (is_root guid) (runs_of (is_root guid) core.site saved rest (answer_of handler.body m).message core.live))) given
 
 -- a root handler leaves no message, as it was given none
-answer_of-no_message : (body : HandlerBody) → (answer_of body no_message).message ≡ no_message
+pub answer_of-no_message : (body : HandlerBody) → (answer_of body no_message).message ≡ no_message
 answer_of-no_message Version = refl
 answer_of-no_message (Stub status) = refl
 answer_of-no_message (Code image address) = refl

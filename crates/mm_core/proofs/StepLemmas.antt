@@ -10,18 +10,19 @@ use Rattle.mm_base.specs.declared.entry.Shape.{Shape}
 use Rattle.mm_base.specs.declared.entry.Shape.TheVariants.{BadLength, BadHeader, NoHandler, Dispatched}
 use Rattle.mm_base.specs.declared.guid.Guid.{Guid}
 use Rattle.mm_base.specs.declared.invocation.Invocation.{Invocation}
-use Rattle.mm_base.specs.declared.status.TheConstants.{SUCCESS, NOT_FOUND}
+use Rattle.mm_base.specs.declared.status.TheConstants.{SUCCESS, INVALID_PARAMETER, NOT_FOUND}
 use Rattle.mmi_registry.proofs.ChainLemmas.{guid_comes_to_first}
 use Rattle.mmi_registry.specs.ChainLaws.{result_from}
 use Rattle.mmi_registry.specs.ChainRule.{stops}
 use Rattle.mmi_registry.specs.Handlers.{chain_of}
+use Rattle.mm_core.proofs.ChainRunLemmas.{answer_of-no_message}
 use Rattle.mm_core.specs.Buffered.{Buffered}
 use Rattle.mm_core.specs.CommunicateHeader.{message, message_length}
 use Rattle.mm_core.specs.CoreState.{CoreState, Site, Live}
-use Rattle.mm_core.specs.EntryLaws.{length-both_chains}
+use Rattle.mm_core.specs.EntryLaws.{length-both_chains, length-runs_of, chain_and_root}
 use Rattle.mm_core.specs.EntryStep.{message_of, chain_runs, root_runs, shape_of, status_as, reply_as, outcome_of, entry_step, core_step}
 use Rattle.mm_core.specs.HandlerChain.{runs_of, through_stop, invocations_of, statuses_of, result_of, message_behind, live_behind}
-use Rattle.mm_core.specs.Invoked.{Message, Invoked, no_message, invoked, status_of}
+use Rattle.mm_core.specs.Invoked.{Message, Invoked, no_message, answer_of, invoked, status_of}
 use Rattle.mm_core.specs.Laws.{IsAddressed}
 use Rattle.mm_core.specs.ManagedChain.{managed}
 use Rattle.mm_core.specs.StepParts.{chain_in, status_in, reply_in}
@@ -168,3 +169,59 @@ refused_buffer core request BadLength start h empty = ap (λ (f : List ℕ). rec
 refused_buffer core request BadHeader start h empty = ap (λ (f : List ℕ). record start { front = f }) (ap (λ b. b.front) empty)
 refused_buffer core request (NoHandler guid) start h empty = ap (λ (f : List ℕ). record start { front = f }) (ap (λ b. b.front) empty)
 refused_buffer core request (Dispatched guid) start h empty = absurd (cc)
+
+-- behind a request's chain there is place for the root chain
+pub root_place : (core : CoreState) (request : Request) (shape : Shape) → length (chain_in core request shape) + length (chain_of None core.site.handlers) ≤ length core.site.handlers
+unfolding chain_in
+root_place core request shape =
+    omega (arith, chain_and_root core.site request core.live core.live shape, length-runs_of true core.site request.saved (chain_of None core.site.handlers) no_message core.live)
+
+root_message : (site : Site) (saved : Saved) (handlers : List Handler) (m : Message) (live : Live) → m ≡ no_message → message_behind m (runs_of true site saved handlers m live) ≡ no_message
+root_message site saved [] m live none = none
+root_message site saved (handler ∷ handlers) m live none =
+    root_message site saved handlers (answer_of handler.body no_message).message live (answer_of-no_message handler.body)
+
+-- the root handlers leave no message
+pub none_behind : (core : CoreState) (saved : Saved) (start after : Buffered) → start.message ≡ no_message → after ≡ record start { message = message_behind start.message (managed core None saved start.message) } → after.message ≡ no_message
+unfolding managed
+none_behind core saved start after none a =
+    let all = runs_of true core.site saved (chain_of None core.site.handlers) start.message core.live in
+    ap (λ b. b.message) a ∙ ap (message_behind start.message) (through_root all)
+    ∙ root_message core.site saved (chain_of None core.site.handlers) start.message core.live none
+
+-- what answering a request by its shape leaves
+pub record Answered (core : CoreState) (request : Request) (start : Buffered) (most : ℕ) (shape : Shape) (status_now : ℕ) (after : Buffered) (made : List Invocation) (left : ℕ) : Type 0 where
+  pub status : status_now ≡ status_in core request shape
+  pub reply : after ≡ record start { front = reply_in core request shape }
+  pub chain : made ≡ invocations_of (chain_in core request shape)
+  pub blanks : left + length (chain_in core request shape) ≡ most
+
+pub bad_length_status : (core : CoreState) (request : Request) → INVALID_PARAMETER ≡ status_in core request BadLength
+unfolding status_in
+bad_length_status core request = refl
+
+pub bad_header_status : (core : CoreState) (request : Request) → INVALID_PARAMETER ≡ status_in core request BadHeader
+unfolding status_in
+bad_header_status core request = refl
+
+pub no_handler_status : (core : CoreState) (request : Request) (guid : Guid) → NOT_FOUND ≡ status_in core request (NoHandler guid)
+unfolding status_in
+no_handler_status core request guid = refl
+
+-- a refused request calls no handler
+pub answered_refused : (core : CoreState) (request : Request) (start : Buffered) (most : ℕ) (shape known : Shape) (status : ℕ) (made : List Invocation) → shape ≡ known → is_refused known ≡ true → status ≡ status_in core request known → start ≡ record { front = []; message = no_message; room = start.room } → made ≡ [] → Answered core request start most shape status start made most
+answered_refused core request start most shape known status made same refused status_known empty none =
+    let A : Shape → Type 0 = λ s. Answered core request start most s status start made most in
+    let chain : chain_in core request known ≡ [] = refused_chain core request known refused in
+    subst A (sym same) record {
+      status = status_known;
+      reply = refused_buffer core request known start refused empty;
+      chain = none ∙ ap invocations_of (sym chain);
+      blanks = omega (arith, ap length chain);
+    }
+
+-- what holds of a shape holds of an equal one
+pub answered_as : (core : CoreState) (request : Request) (start : Buffered) (most : ℕ) (shape known : Shape) (status : ℕ) (after : Buffered) (made : List Invocation) (left : ℕ) → shape ≡ known → Answered core request start most known status after made left → Answered core request start most shape status after made left
+answered_as core request start most shape known status after made left same answered =
+    let A : Shape → Type 0 = λ s. Answered core request start most s status after made left in
+    subst A (sym same) answered

@@ -100,7 +100,7 @@ is_addressed site request guid h =
     }
 
 -- the chain of a request and the root chain have at most as many runs as there are handlers
-chain_and_root : (site : Site) (request : Request) (live between : Live) (shape : Shape) → length (chain_runs site request live shape) + length (root_runs site request between) ≤ length site.handlers
+pub chain_and_root : (site : Site) (request : Request) (live between : Live) (shape : Shape) → length (chain_runs site request live shape) + length (root_runs site request between) ≤ length site.handlers
 chain_and_root site request live between BadLength =
     omega (arith, length-runs_of true site request.saved (chain_of None site.handlers) no_message between, length-both_chains record { 0 = [] } site.handlers)
 chain_and_root site request live between BadHeader =
