@@ -225,3 +225,8 @@ pub answered_as : (core : CoreState) (request : Request) (start : Buffered) (mos
 answered_as core request start most shape known status after made left same answered =
     let A : Shape → Type 0 = λ s. Answered core request start most s status after made left in
     subst A (sym same) answered
+
+-- the outcome of the step is that of the entry step
+pub core_step-outcome : (core : CoreState) (request : Request) → (entry_step core.site core.live request).0 ≡ (core_step core request).0
+unfolding core_step
+core_step-outcome core request = refl
