@@ -1,10 +1,10 @@
 -- What is left of a room of bytes, where the first so many are the reply.
-use Rattle.std.proofs.Common.{◌≡◌, ◌+◌, ◌-◌, length-drop, ◌≤◌, ℕ, min, List, [], ◌++◌, length, take, drop, refl, sym, ap, ◌∙◌, append-nil}
+use Rattle.std.proofs.Common.{◌≡◌, ◌+◌, ◌-◌, length-drop, ℕ, min, List, [], ◌++◌, length, take, drop, sym, ap, ◌∙◌, append-nil}
 use Rattle.std.proofs.Math.Seq.{take-add, take-length, drop-length}
 use Rattle.std.proofs.lemmas.List.{take_min, take-append-drop}
 use Rattle.mm_base.specs.Room.{Roomy}
 use Rattle.mm_core.specs.Buffered.{Buffered}
-use Rattle.mm_core.specs.Invoked.{Message, no_message}
+use Rattle.mm_core.specs.Invoked.{no_message}
 
 -- the reply and the first n bytes behind it, or as many as there are
 kept_of : (front n kept : ℕ) (items : List ℕ) → kept ≡ min n (length (drop front items)) → take (front + kept) items ≡ take front items ++ take n (drop front items)

@@ -18,7 +18,7 @@ use Rattle.mmi_registry.specs.Handlers.{chain_of}
 use Rattle.mm_core.specs.Buffered.{Buffered}
 use Rattle.mm_core.specs.CoreState.{CoreState}
 use Rattle.mm_core.specs.HandlerChain.{runs_of, through_stop, invocations_of, statuses_of, message_behind}
-use Rattle.mm_core.specs.Invoked.{Message, Answer, Invoked, no_message, answer_of, invoked, status_of}
+use Rattle.mm_core.specs.Invoked.{Message, Answer, Invoked, no_message, answer_of}
 use Rattle.mm_core.specs.ManagedChain.{is_root, IsGiven, managed}
 
 -- the runs that are left at place k, with this message

@@ -1,5 +1,5 @@
 -- Who is dispatched, and which handlers run.
-use Rattle.std.proofs.Common.{◌≡◌, ◌≢◌, ◌+◌, ◌-◌, ◌≤◌, Bool, true, false, cond, if◌then◌else◌, not, ◌&&◌, ◌==◌, nat_lt, nat_le, ℕ, List, [], ◌∷◌, length, take, map, Some, None, refl, sym, ap, subst, ◌∙◌, arith}
+use Rattle.std.proofs.Common.{◌≡◌, ◌≢◌, ◌-◌, ◌≤◌, Bool, true, false, if◌then◌else◌, not, ◌&&◌, ◌==◌, nat_lt, nat_le, ℕ, List, [], ◌∷◌, length, take, Some, None, refl, sym, ap, subst, ◌∙◌, arith}
 use Rattle.std.proofs.lemmas.Bool.Decides.{nat_tests}
 use Rattle.mm_base.specs.declared.cells.Saved.{Saved}
 use Rattle.mm_base.specs.declared.guid.Guid.{Guid}
@@ -12,7 +12,7 @@ use Rattle.mmi_registry.specs.Handlers.{chain_of}
 use Rattle.mm_core.specs.CommunicateHeader.{header_guid, message_length, is_lawful}
 use Rattle.mm_core.specs.CoreState.{Site, Live}
 use Rattle.mm_core.specs.EntryLaws.{is_addressed}
-use Rattle.mm_core.specs.EntryStep.{has_none, shape_of, message_of, chain_runs, root_runs, entry_step}
+use Rattle.mm_core.specs.EntryStep.{has_none, shape_of, message_of, chain_runs, entry_step}
 use Rattle.mm_core.specs.HandlerChain.{runs_of, through_stop, invocations_of, live_behind}
 use Rattle.mm_core.specs.Invoked.{Message, Invoked, no_message, invoked, status_of}
 use Rattle.mm_core.specs.Laws.{IsAddressed, DispatchedExactly, RootAlwaysRuns, ChainRunsInOrder, numbers_of, invoked_numbers}

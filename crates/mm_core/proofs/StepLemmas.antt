@@ -3,7 +3,6 @@ use Rattle.std.proofs.Common.{◌≡◌, ℕ, ◌+◌, ◌-◌, ◌≤◌, min, 
 use Rattle.std.proofs.lemmas.List.{length-take}
 use Rattle.mm_base.specs.declared.cells.Saved.{Saved}
 use Rattle.mm_base.specs.declared.handler.Handler.{Handler}
-use Rattle.mm_base.specs.Room.{Roomy}
 use Rattle.mm_base.specs.declared.entry.Outcome.{Outcome}
 use Rattle.mm_base.specs.declared.entry.Request.{Request}
 use Rattle.mm_base.specs.declared.entry.Shape.{Shape}
@@ -21,7 +20,7 @@ use Rattle.mm_core.specs.CommunicateHeader.{message, message_length}
 use Rattle.mm_core.specs.CoreState.{CoreState, Site, Live}
 use Rattle.mm_core.specs.EntryLaws.{length-both_chains, length-runs_of, chain_and_root}
 use Rattle.mm_core.specs.EntryStep.{message_of, chain_runs, root_runs, shape_of, status_as, reply_as, outcome_of, entry_step, core_step}
-use Rattle.mm_core.specs.HandlerChain.{runs_of, through_stop, invocations_of, statuses_of, result_of, message_behind, live_behind}
+use Rattle.mm_core.specs.HandlerChain.{runs_of, through_stop, invocations_of, statuses_of, message_behind, live_behind}
 use Rattle.mm_core.specs.Invoked.{Message, Invoked, no_message, answer_of, invoked, status_of}
 use Rattle.mm_core.specs.Laws.{IsAddressed}
 use Rattle.mm_core.specs.ManagedChain.{managed}
@@ -71,6 +70,13 @@ both_fit bytes header message room h m fits most =
 pub copied : (request : Request) (bytes copy : List ℕ) → bytes ≡ request.bytes → copy ≡ message bytes → length copy ≡ message_length bytes → (let m : Message = record { buffer = copy; size = length copy } in m ≡ message_of request)
 copied request bytes copy same buffer size = message_is request copy (buffer ∙ ap message same) (size ∙ ap message_length same)
 
+-- buffers of equal parts are equal
+same_buffer : (f g : List ℕ) (m n : Message) (a b : ℕ) → f ≡ g → m ≡ n → a ≡ b → (let buffer : Buffered = record { front = f; message = m; room = a } in buffer ≡ record { front = g; message = n; room = b })
+same_buffer f g m n a b fg mn ab =
+    ap (λ (h : List ℕ). record { front = h; message = m; room = a }) fg
+    ∙ ap (λ (h : Message). record { front = g; message = h; room = a }) mn
+    ∙ ap (λ (h : ℕ). record { front = g; message = n; room = h }) ab
+
 -- the buffer of a dispatched request, from its opening to its close
 pub dispatched_buffer : (core : CoreState) (request : Request) (guid : Guid) (start opened after closed : Buffered) (bytes header copy : List ℕ)
     → start ≡ record { front = []; message = no_message; room = start.room }
@@ -89,10 +95,7 @@ dispatched_buffer core request guid start opened after closed bytes header copy 
     let reply : after.front ++ take (min after.message.size (length copy)) after.message.buffer ≡ reply_in core request (Dispatched guid) =
     reply_is core request guid after.front after.message (length copy) front left (size ∙ ap message_length same) in
     let none : no_message ≡ start.message = sym (ap (λ b. b.message) empty) in
-    c
-    ∙ ap (λ (f : List ℕ). record { front = f; message = no_message; room = after.room }) reply
-    ∙ ap (λ (n : ℕ). record { front = reply_in core request (Dispatched guid); message = no_message; room = n }) room
-    ∙ ap (λ (m' : Message). record { front = reply_in core request (Dispatched guid); message = m'; room = start.room }) none
+    c ∙ same_buffer _ _ _ _ _ _ reply none room
 
 -- no run changes what it may change: built-in handlers touch nothing but the message
 live_stays : (root : Bool) (site : Site) (saved : Saved) (handlers : List Handler) (m : Message) (live : Live) → live_behind live (runs_of root site saved handlers m live) ≡ live

@@ -1,5 +1,5 @@
 -- What bounds the outcomes of the entry step, whatever the handlers are.
-use Rattle.std.proofs.Common.{◌≡◌, ◌≢◌, ◌+◌, ◌-◌, ◌≤◌, Bool, true, false, cond, if◌then◌else◌, not, min, ℕ, List, [], ◌∷◌, ◌++◌, length, take, map, Option, Some, None, refl, sym, ap, subst, ◌∙◌, arith, length-append}
+use Rattle.std.proofs.Common.{◌≡◌, ◌≢◌, ◌+◌, ◌-◌, ◌≤◌, Bool, true, false, cond, if◌then◌else◌, not, min, List, [], ◌∷◌, ◌++◌, length, take, Option, Some, None, refl, subst, arith, length-append}
 use Rattle.std.specs.Option.{option_eq}
 use Rattle.std.specs.List.{All}
 use Rattle.std.proofs.lemmas.Bool.{and_parts, leb-true, eqb-true, ltb-false}
@@ -10,13 +10,12 @@ use Rattle.mm_base.specs.Guid.{same_guid}
 use Rattle.mm_base.specs.declared.cells.Saved.{Saved}
 use Rattle.mm_base.specs.declared.guid.Guid.{Guid}
 use Rattle.mm_base.specs.declared.handler.Handler.{Handler}
-use Rattle.mm_base.specs.declared.invocation.Invocation.{Invocation}
 use Rattle.mm_base.specs.declared.entry.Request.{Request}
 use Rattle.mm_base.specs.declared.entry.Shape.{Shape}
 use Rattle.mm_base.specs.declared.entry.Shape.TheVariants.{BadLength, BadHeader, NoHandler, Dispatched}
 use Rattle.mmi_registry.specs.ChainRule.{stops}
 use Rattle.mmi_registry.specs.Handlers.{chain_of}
-use Rattle.mm_core.specs.CommunicateHeader.{header_guid, message_length, is_lawful}
+use Rattle.mm_core.specs.CommunicateHeader.{message_length, is_lawful}
 use Rattle.mm_core.specs.CoreState.{Site, Live, CoreState}
 use Rattle.mm_core.specs.EntryStep.{has_none, shape_of, message_of, chain_runs, root_runs, reply_as, outcome_of, entry_step, core_step}
 use Rattle.mm_core.specs.HandlerChain.{runs_of, through_stop, invocations_of, message_behind, live_behind}

@@ -1,5 +1,5 @@
 -- The chain of a GUID, or the root chain, as one call of MmiManage goes through it.
-use Rattle.std.specs.Prelude.{◌≡◌, ℕ, Bool, true, false, List, Option, Some, None, if◌then◌else◌}
+use Rattle.std.specs.Prelude.{◌≡◌, Bool, true, false, List, Option, Some, None, if◌then◌else◌}
 use Rattle.mm_base.specs.declared.cells.Saved.{Saved}
 use Rattle.mm_base.specs.declared.guid.Guid.{Guid}
 use Rattle.mmi_registry.specs.Handlers.{chain_of}

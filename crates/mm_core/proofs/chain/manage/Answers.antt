@@ -1,6 +1,4 @@
-use Rattle.std.proofs.Common.{◌≡◌, ◌+◌, ◌≤◌, ◌<◌, ◌∙◌, true, Some, slice_get, sym, ap, vec_len, length, arith}
-use Rattle.std.specs.Option.{option_eq}
-use Rattle.mm_base.specs.Guid.{same_guid}
+use Rattle.std.proofs.Common.{◌+◌, ◌∙◌, sym, ap, vec_len, arith}
 use Rattle.mm_core.proofs.ChainRunLemmas.{Managed, at_start, at_end, root_is, goes_on, ends, goes_past, has_place}
 use Rattle.mm_core.proofs.chain.manage.Goals as goal
 use Rattle.mm_core.proofs.chain.manage.Goals.{then-eq+else-stopped, else-eq}

@@ -1,7 +1,6 @@
-use Rattle.std.proofs.Common.{◌≡◌, ◌+◌, ◌∙◌, [], ◌++◌, sym, ap, None, length, arith}
+use Rattle.std.proofs.Common.{◌≡◌, ◌∙◌, [], ◌++◌, sym, ap, None, length, arith}
 use Rattle.mm_core.specs.HandlerChain.{invocations_of}
 use Rattle.mm_core.specs.ManagedChain.{managed}
-use Rattle.mm_core.specs.Buffered.{Buffered}
 use Rattle.mm_core.specs.Invoked.{Message, no_message}
 use Rattle.mm_core.proofs.StepLemmas.{root_place, none_behind, outcome_is}
 use Rattle.mm_core.proofs.entry_step.outcome_of.Goals as goal

@@ -1,5 +1,5 @@
 use Rattle.std.proofs.Common.{arith, length, ap}
-use Rattle.mm_core.proofs.ScriptLemmas.{at_first, one_more, all_added}
+use Rattle.mm_core.proofs.ScriptLemmas.{at_first, one_more}
 use Rattle.mm_core.proofs.script_core.scripted.Goals as goal
 
 pub loop-handler-init : goal.loop-handler-init

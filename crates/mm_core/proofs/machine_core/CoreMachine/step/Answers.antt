@@ -1,7 +1,6 @@
 use Rattle.std.proofs.Common.{◌≡◌, ◌∙◌, length, ap, arith}
-use Rattle.mm_base.specs.Prepared.{Readied, Suffices}
 use Rattle.mm_base.specs.declared.entry.Entry.{Entry}
-use Rattle.mm_core.specs.EntryStep.{entry_step, core_step}
+use Rattle.mm_core.specs.EntryStep.{entry_step}
 use Rattle.mm_core.proofs.StepLemmas.{core_step-stays, core_step-outcome}
 use Rattle.mm_core.proofs.machine_core.CoreMachine.step.Goals as goal
 
