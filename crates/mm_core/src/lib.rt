@@ -9,6 +9,8 @@ mod invoke;
 pub mod laws;
 mod machine_core;
 mod script_core;
+#[cfg(test)]
+mod tests;
 mod version;
 
 pub use machine_core::Core;
