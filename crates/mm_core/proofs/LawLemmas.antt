@@ -21,7 +21,6 @@ has_none-some : (handlers : List Handler) → handlers ≢ [] → has_none handl
 has_none-some [] h = absurd (h refl)
 has_none-some (handler ∷ handlers) h = refl
 
-
 all_shaped : (lawful long none : Bool) (header guid : Guid) → lawful ≡ true → long ≡ false → none ≡ false → header ≡ guid → (if not lawful then BadLength else if long then BadHeader else if none then NoHandler header else Dispatched header) ≡ Dispatched guid
 all_shaped false long none header guid l b n h = absurd (cc)
 all_shaped true true none header guid l b n h = absurd (cc)

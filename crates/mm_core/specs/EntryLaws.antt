@@ -71,9 +71,13 @@ one_chain guid (Some other) = omega (arith, cond-le-one (same_guid other guid))
 pub length-both_chains : (guid : Guid) (handlers : List Handler) → length (chain_of (Some guid) handlers) + length (chain_of None handlers) ≤ length handlers
 length-both_chains guid [] = omega arith
 length-both_chains guid (handler ∷ handlers) =
-    omega (arith, length-both_chains guid handlers, one_chain guid handler.guid,
-    length-kept (option_eq same_guid handler.guid (Some guid)) handler (chain_of (Some guid) handlers),
-    length-kept (option_eq same_guid handler.guid None) handler (chain_of None handlers))
+    omega (
+      arith,
+      length-both_chains guid handlers,
+      one_chain guid handler.guid,
+      length-kept (option_eq same_guid handler.guid (Some guid)) handler (chain_of (Some guid) handlers),
+      length-kept (option_eq same_guid handler.guid None) handler (chain_of None handlers),
+    )
 
 only_dispatched : (lawful long none : Bool) (header guid : Guid) → (if not lawful then BadLength else if long then BadHeader else if none then NoHandler header else Dispatched header) ≡ Dispatched guid → (lawful ≡ true) × (long ≡ false) × (none ≡ false) × (header ≡ guid)
 only_dispatched false long none header guid h = absurd (cc)
@@ -108,9 +112,13 @@ chain_and_root site request live between (NoHandler guid) =
     omega (arith, length-runs_of true site request.saved (chain_of None site.handlers) no_message between, length-both_chains guid site.handlers)
 chain_and_root site request live between (Dispatched guid) =
     let all = runs_of false site request.saved (chain_of (Some guid) site.handlers) (message_of request) live in
-    omega (arith, length-through_stop false all,
-    length-runs_of false site request.saved (chain_of (Some guid) site.handlers) (message_of request) live,
-    length-runs_of true site request.saved (chain_of None site.handlers) no_message between, length-both_chains guid site.handlers)
+    omega (
+      arith,
+      length-through_stop false all,
+      length-runs_of false site request.saved (chain_of (Some guid) site.handlers) (message_of request) live,
+      length-runs_of true site request.saved (chain_of None site.handlers) no_message between,
+      length-both_chains guid site.handlers,
+    )
 
 few-chain_runs : (site : Site) (request : Request) (live : Live) (shape : Shape) → All HasFewRecords (invocations_of (chain_runs site request live shape))
 few-chain_runs site request live BadLength = All-nil HasFewRecords

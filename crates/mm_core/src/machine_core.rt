@@ -27,7 +27,7 @@ impl Model for Core {
 
 impl Core {
     /// The core that has these handlers and cells.
-    pub fn new(registry: Registry, cells: List<CellWrite>) -> Core
+    pub(crate) fn new(registry: Registry, cells: List<CellWrite>) -> Core
         ensures { result ≡ record { site = record { handlers = registry.handlers }; live = record { cells = cells } } }
     {
         Core { registry, cells }
@@ -55,7 +55,7 @@ impl Core {
     }
 
     /// Whether a handler is registered for this GUID. It costs one step a handler.
-    pub fn has_handler(&self, guid: Guid) -> bool
+    pub(crate) fn has_handler(&self, guid: Guid) -> bool
         ensures { result ≡ not (has_none (chain_of (Some guid) self.now.site.handlers)) }
     {
         self.registry.chain(guid, 0).is_some()

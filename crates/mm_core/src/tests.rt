@@ -71,11 +71,7 @@ fn stubs(alloc: Global, listed: &[(Option<Guid>, u64)]) -> Result<List<Handler>,
 }
 
 /// The core of a script with these stubs.
-fn core(
-    rt: &impl Abort,
-    alloc: Global,
-    listed: &[(Option<Guid>, u64)],
-) -> Result<Core, NoMemory> {
+fn core(rt: &impl Abort, alloc: Global, listed: &[(Option<Guid>, u64)]) -> Result<Core, NoMemory> {
     assert!(rt; listed.len() <= 64);
     let opening = Opening {
         cells: List::new(alloc),
@@ -103,12 +99,9 @@ fn entered(
 /// Whether these invocations are of these handlers, which returned these statuses.
 fn are(invocations: &[Invocation], expected: &[(u32, u64)]) -> bool {
     invocations.len() == expected.len()
-        && invocations
-            .iter()
-            .zip(expected)
-            .all(|(made, (handler, status))| {
-                made.handler == *handler && made.ended == Ended::Returned(*status)
-            })
+        && invocations.iter().zip(expected).all(|(made, (handler, status))| {
+            made.handler == *handler && made.ended == Ended::Returned(*status)
+        })
 }
 
 /// Whether this outcome is the one that the case asks for.

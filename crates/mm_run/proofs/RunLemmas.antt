@@ -1,5 +1,5 @@
 -- From a script to the world that it drives.
-use Rattle.std.proofs.Common.{◌≡◌, ◌≤◌, ◌<◌, ℕ, zero, suc, ◌+◌, List, [], ◌∷◌, ◌++◌, All, length, map, sum_by, get_or, Bool, true, false, Some, None, slice_index, ◌⊎◌, inl, inr, refl, sym, ap, ◌∙◌, subst, arith}
+use Rattle.std.proofs.Common.{◌≡◌, ◌≤◌, ◌<◌, ℕ, zero, suc, ◌+◌, List, [], ◌∷◌, ◌++◌, All, length, map, take, sum_by, get_or, Bool, true, false, Some, None, slice_index, ◌⊎◌, inl, inr, refl, sym, ap, ◌∙◌, subst, arith}
 use Rattle.std.proofs.lemmas.List.{append-nil, length-append, length-map, get_or-map}
 use Rattle.std.proofs.lemmas.Option.{none-some, same_Some, slice_get-get_or}
 use Rattle.std.specs.List.{range_with_len, slice_get}
@@ -69,6 +69,15 @@ size_of : (size : ℕ) (lanes : List LaneState) → All (λ lane. length lane �
 size_of size [] all i seen there = absurd (none-some seen there)
 size_of size (x ∷ lanes) all zero seen there = ap (λ (s : LaneState). length s.values) (sym (same_Some x seen there)) ∙ all 0 [] (omega arith)
 size_of size (x ∷ lanes) all (suc i) seen there = size_of size lanes (λ k d l. all (suc k) d (omega arith)) i seen there
+
+-- the words of the lanes so far, and of one lane more
+pub values_more : (lanes : List LaneState) (i : ℕ) (copied : List ℕ) → i < length lanes → ((seen : LaneState) → slice_get lanes i ≡ Some seen → copied ≡ seen.values) → map (λ seen. seen.values) (take i lanes) ++ copied ∷ [] ≡ map (λ seen. seen.values) (take (i + 1) lanes)
+values_more [] i copied h is = absurd (omega arith)
+values_more (x ∷ lanes) zero copied h is = ap (λ v. v ∷ []) (is x refl)
+values_more (x ∷ lanes) (suc i) copied h is =
+    let e : suc (i + 1) ≡ suc i + 1 = omega arith in
+    ap (λ vs. x.values ∷ vs) (values_more lanes i copied (omega arith) (λ seen there. is seen there))
+    ∙ ap (λ n. map (λ (seen : LaneState). seen.values) (take n (x ∷ lanes))) e
 
 -- the lanes' words are long enough for a report
 pub front_words : (words : ℕ) (lanes : List (List ℕ)) → All (λ lane. length lane ≡ words + 2) lanes → HaveFrontWords (Some lanes)
