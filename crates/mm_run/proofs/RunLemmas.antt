@@ -229,3 +229,7 @@ pub fault_not_read : (before now : Option (List ℕ)) (fault : TextFault) (scrip
 fault_not_read before now fault script bytes all says h =
     let P : List ℕ → Type 0 = λ bs. IsFault true bs fault in
     never-both true bytes script fault says (subst P (given_all before now h.bytes bytes h.told all) h.first)
+
+-- nor can it have been made
+pub made_no_fault : (before now : Option (List ℕ)) (made : Made) (fault : TextFault) → IsMade before now made → HoldsFault before fault → ⊥
+made_no_fault before now made fault m h = fault_not_read before now fault m.script m.read.bytes m.read.all m.read.says h

@@ -1,11 +1,8 @@
 use Rattle.std.proofs.Common.{◌∙◌, ap, List, Some}
 use Rattle.mm_base.specs.declared.entry.Entry.{Entry}
 use Rattle.mm_text.specs.Report.{report_of}
-use Rattle.mm_run.proofs.RunLemmas.{driven_is, front_words}
+use Rattle.mm_run.proofs.RunLemmas.{driven_is}
 use Rattle.mm_run.proofs.top_call.driven.Goals as goal
-
-pub text-requires : goal.text-requires
-text-requires c = front_words _ _ c.in_ok-lanes.ensures.sizes
 
 pub returns : goal.returns
 returns c =
