@@ -1,10 +1,12 @@
 pub mod BuilderLemmas
 pub mod EventLemmas
 pub mod FieldLemmas
+pub mod GuidLemmas
 pub mod JudgeLemmas
 pub mod LimitLemmas
 pub mod LineLemmas
 pub mod NumberLemmas
+pub mod ReadLemmas
 pub mod ReaderLemmas
 pub mod RegisterLemmas
 pub mod SaysLemmas

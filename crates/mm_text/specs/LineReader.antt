@@ -213,12 +213,12 @@ unfoldable pub has_form : List (List ℕ) → Bool
 has_form [] = false
 has_form (word ∷ words) = form_from (keyword_of_word word) words
 
--- the answer where a word's number was wanted
+-- what words say, or else that one of them can't be read
 abbrev pub numbered : {A : Type 0} → Option A → Result A LineEnd
 numbered None = Err Number
 numbered (Some said) = Ok said
 
--- the answer for words that have this form and say this: the form is judged first
+-- the answer for words that have a line's form or not, and say this: the form is judged first
 abbrev pub judged : Bool → Option Line → Result Line LineEnd
 judged form said = if form then numbered said else Err Words
 

@@ -2,6 +2,7 @@
 ghost use Rattle.std.specs.Prelude.{◌≡◌, None, IfSome};
 ghost use Rattle.mm_text.specs.LineReader.{keyword_of_word};
 ghost use Rattle.mm_text.specs.Refusal.{IsKeyword};
+ghost use Rattle.mm_text.specs.ScriptText.{is_of_text};
 ghost use Rattle.mm_text.specs.declared.line.Keyword.{Keyword};
 
 use crate::line::Keyword;
@@ -11,9 +12,21 @@ pub fn keyword_in(word: &[u8], handlers: bool) -> Option<Keyword>
     ensures found { IfSome result (λ keyword. IsKeyword handlers keyword word.now) }
     ensures none { result ≡ None → (keyword : Keyword) → IsKeyword handlers keyword word.now → ⊥ }
 {
-    match spelled(word) {
-        Some(Keyword::Handler) if !handlers => None,
-        keyword => keyword,
+    let keyword = spelled(word)?;
+    if is_said(keyword, handlers) {
+        Some(keyword)
+    } else {
+        None
+    }
+}
+
+/// Whether a text says lines of this keyword.
+fn is_said(keyword: Keyword, handlers: bool) -> bool
+    ensures { result ≡ is_of_text handlers keyword }
+{
+    match keyword {
+        Keyword::Handler => handlers,
+        _ => true,
     }
 }
 

@@ -66,17 +66,19 @@ fn read_behind(alloc: Global, keyword: Keyword, words: &[&[u8]]) -> Result<Line,
     }
 }
 
+/// Reads the words behind `lanes`.
 fn read_lanes(words: &[&[u8]]) -> Result<Line, LineEnd>
     ensures { result ≡ judged (form_behind keywords.Lanes (map (λ word. word.now) words.now)) (lanes_in (map (λ word. word.now) words.now)) }
 {
     match words {
-        [lanes, words] => lanes_by(lanes, words),
+        [lanes, words] => lanes_line(lanes, words),
         _ => Err(LineEnd::Words),
     }
 }
 
+/// A `lanes` line by its number of lanes and their number of data words.
 #[tactic(auto, unfolding(crate::specs::LineReader::lanes_in))]
-fn lanes_by(lanes: &[u8], words: &[u8]) -> Result<Line, LineEnd>
+fn lanes_line(lanes: &[u8], words: &[u8]) -> Result<Line, LineEnd>
     ensures { result ≡ numbered (lanes_in (lanes.now ∷ words.now ∷ [])) }
 {
     let lanes = read_decimal(lanes)?;
@@ -84,17 +86,19 @@ fn lanes_by(lanes: &[u8], words: &[u8]) -> Result<Line, LineEnd>
     Ok(Line::Lanes { lanes, words })
 }
 
+/// Reads the words behind `cell`.
 fn read_cell(words: &[&[u8]]) -> Result<Line, LineEnd>
     ensures { result ≡ judged (form_behind keywords.Cell (map (λ word. word.now) words.now)) (cell_in (map (λ word. word.now) words.now)) }
 {
     match words {
-        [kind, at, value] => cell_by(kind, at, value),
+        [kind, at, value] => cell_line(kind, at, value),
         _ => Err(LineEnd::Words),
     }
 }
 
+/// A `cell` line by its kind of cells, its place and its value; the kind belongs to the form.
 #[tactic(auto, unfolding(crate::specs::LineReader::cell_in))]
-fn cell_by(kind: &[u8], at: &[u8], value: &[u8]) -> Result<Line, LineEnd>
+fn cell_line(kind: &[u8], at: &[u8], value: &[u8]) -> Result<Line, LineEnd>
     ensures { result ≡ judged (is_some (cells_in kind.now)) (cell_in (kind.now ∷ at.now ∷ value.now ∷ [])) }
 {
     let Some(kind) = read_cells(kind) else {
@@ -105,17 +109,19 @@ fn cell_by(kind: &[u8], at: &[u8], value: &[u8]) -> Result<Line, LineEnd>
     Ok(Line::Cell { kind, at, value })
 }
 
+/// Reads the words behind `handler`.
 fn read_handler(words: &[&[u8]]) -> Result<Line, LineEnd>
     ensures { result ≡ judged (form_behind keywords.Handler (map (λ word. word.now) words.now)) (handler_in (map (λ word. word.now) words.now)) }
 {
     match words {
-        [owner, status] => handler_by(owner, status),
+        [owner, status] => handler_line(owner, status),
         _ => Err(LineEnd::Words),
     }
 }
 
+/// A `handler` line by its owner and its status.
 #[tactic(auto, unfolding(crate::specs::LineReader::handler_in))]
-fn handler_by(owner: &[u8], status: &[u8]) -> Result<Line, LineEnd>
+fn handler_line(owner: &[u8], status: &[u8]) -> Result<Line, LineEnd>
     ensures { result ≡ numbered (handler_in (owner.now ∷ status.now ∷ [])) }
 {
     let guid = read_owner(owner)?;
@@ -123,17 +129,19 @@ fn handler_by(owner: &[u8], status: &[u8]) -> Result<Line, LineEnd>
     Ok(Line::Handler { guid, status })
 }
 
+/// Reads the words behind `poke`.
 fn read_poke(words: &[&[u8]]) -> Result<Line, LineEnd>
     ensures { result ≡ judged (form_behind keywords.Poke (map (λ word. word.now) words.now)) (poke_in (map (λ word. word.now) words.now)) }
 {
     match words {
-        [lane, word, value] => poke_by(lane, word, value),
+        [lane, word, value] => poke_line(lane, word, value),
         _ => Err(LineEnd::Words),
     }
 }
 
+/// A `poke` line by its lane, its word and its value.
 #[tactic(auto, unfolding(crate::specs::LineReader::poke_in))]
-fn poke_by(lane: &[u8], word: &[u8], value: &[u8]) -> Result<Line, LineEnd>
+fn poke_line(lane: &[u8], word: &[u8], value: &[u8]) -> Result<Line, LineEnd>
     ensures { result ≡ numbered (poke_in (lane.now ∷ word.now ∷ value.now ∷ [])) }
 {
     let lane = read_decimal(lane)?;
@@ -142,17 +150,19 @@ fn poke_by(lane: &[u8], word: &[u8], value: &[u8]) -> Result<Line, LineEnd>
     Ok(Line::Poke { lane, word, value })
 }
 
+/// Reads the words behind `fill`.
 fn read_fill(alloc: Global, words: &[&[u8]]) -> Result<Line, LineEnd>
     ensures { Gives (judged (form_behind keywords.Fill (map (λ word. word.now) words.now)) (fill_in (map (λ word. word.now) words.now))) result }
 {
     match words {
-        [lane, digits] => fill_by(alloc, lane, digits),
+        [lane, digits] => fill_line(alloc, lane, digits),
         _ => Err(LineEnd::Words),
     }
 }
 
+/// A `fill` line by its lane and its digits.
 #[tactic(auto, unfolding(crate::specs::LineReader::fill_in))]
-fn fill_by(alloc: Global, lane: &[u8], digits: &[u8]) -> Result<Line, LineEnd>
+fn fill_line(alloc: Global, lane: &[u8], digits: &[u8]) -> Result<Line, LineEnd>
     ensures { Gives (numbered (fill_in (lane.now ∷ digits.now ∷ []))) result }
 {
     let lane = read_decimal(lane)?;
@@ -160,17 +170,19 @@ fn fill_by(alloc: Global, lane: &[u8], digits: &[u8]) -> Result<Line, LineEnd>
     Ok(Line::Fill { lane, bytes })
 }
 
+/// Reads the words behind `ring`.
 fn read_ring(alloc: Global, words: &[&[u8]]) -> Result<Line, LineEnd>
     ensures { Gives (judged (form_behind keywords.Ring (map (λ word. word.now) words.now)) (ring_in (map (λ word. word.now) words.now))) result }
 {
     match words {
-        [lane, pairs @ ..] => ring_by(alloc, lane, pairs),
+        [lane, pairs @ ..] => ring_line(alloc, lane, pairs),
         _ => Err(LineEnd::Words),
     }
 }
 
+/// A `ring` line by its lane and its pairs; that each pair has a `=` belongs to the form.
 #[tactic(auto, unfolding(crate::specs::LineReader::ring_in))]
-fn ring_by(alloc: Global, lane: &[u8], pairs: &[&[u8]]) -> Result<Line, LineEnd>
+fn ring_line(alloc: Global, lane: &[u8], pairs: &[&[u8]]) -> Result<Line, LineEnd>
     ensures { Gives (judged (list_all has_equals_in (map (λ word. word.now) pairs.now)) (ring_in (lane.now ∷ map (λ word. word.now) pairs.now))) result }
 {
     if !are_pairs(pairs) {
@@ -207,26 +219,29 @@ fn read_pairs(alloc: Global, words: &[&[u8]]) -> Result<List<Named>, LineEnd>
     Ok(pairs)
 }
 
+/// Reads the words behind `step`.
 fn read_step(words: &[&[u8]]) -> Result<Line, LineEnd>
     ensures { result ≡ judged (form_behind keywords.Step (map (λ word. word.now) words.now)) (step_in (map (λ word. word.now) words.now)) }
 {
     match words {
-        [lane] => step_by(lane),
-        [lane, count] => steps_by(lane, count),
+        [lane] => step_line(lane),
+        [lane, count] => steps_line(lane, count),
         _ => Err(LineEnd::Words),
     }
 }
 
+/// A `step` line by its lane.
 #[tactic(auto, unfolding(crate::specs::LineReader::step_in))]
-fn step_by(lane: &[u8]) -> Result<Line, LineEnd>
+fn step_line(lane: &[u8]) -> Result<Line, LineEnd>
     ensures { result ≡ numbered (step_in (lane.now ∷ [])) }
 {
     let lane = read_decimal(lane)?;
     Ok(Line::Step { lane })
 }
 
+/// A `step` line by its lane and its count.
 #[tactic(auto, unfolding(crate::specs::LineReader::step_in))]
-fn steps_by(lane: &[u8], count: &[u8]) -> Result<Line, LineEnd>
+fn steps_line(lane: &[u8], count: &[u8]) -> Result<Line, LineEnd>
     ensures { result ≡ numbered (step_in (lane.now ∷ count.now ∷ [])) }
 {
     let lane = read_decimal(lane)?;
@@ -234,17 +249,19 @@ fn steps_by(lane: &[u8], count: &[u8]) -> Result<Line, LineEnd>
     Ok(Line::Steps { lane, count })
 }
 
+/// Reads the words behind `run`.
 fn read_run(words: &[&[u8]]) -> Result<Line, LineEnd>
     ensures { result ≡ judged (form_behind keywords.Run (map (λ word. word.now) words.now)) (run_in (map (λ word. word.now) words.now)) }
 {
     match words {
-        [lane] => run_by(lane),
+        [lane] => run_line(lane),
         _ => Err(LineEnd::Words),
     }
 }
 
+/// A `run` line by its lane.
 #[tactic(auto, unfolding(crate::specs::LineReader::run_in))]
-fn run_by(lane: &[u8]) -> Result<Line, LineEnd>
+fn run_line(lane: &[u8]) -> Result<Line, LineEnd>
     ensures { result ≡ numbered (run_in (lane.now ∷ [])) }
 {
     let lane = read_decimal(lane)?;
