@@ -63,7 +63,7 @@ length-request lane len saved values ps older e =
     omega (arith, ap length same, length-take len (bytes_of_words values), length-bytes_of_words values)
 
 -- a turn of any lane gives one outcome more
-outcomes-turned : {M : Type 0} (step : M → Request → Outcome × M) (m : M) (lane position : ℕ) (past : List Mark) → outcomes_of step m (Did (Turned lane position) ∷ past) ≡ outcomes_of step m past ++ (step (left_by step m (requests past)) (request_in lane (last_saved lane past) (newest (pieces lane past)))).0 ∷ []
+pub outcomes-turned : {M : Type 0} (step : M → Request → Outcome × M) (m : M) (lane position : ℕ) (past : List Mark) → outcomes_of step m (Did (Turned lane position) ∷ past) ≡ outcomes_of step m past ++ (step (left_by step m (requests past)) (request_in lane (last_saved lane past) (newest (pieces lane past)))).0 ∷ []
 outcomes-turned step m lane position past = outcomes-snoc step m (requests past) (request_in lane (last_saved lane past) (newest (pieces lane past)))
 
 -- the lane's own next action
@@ -159,7 +159,7 @@ acts_own step m words lane (suc n) past bounded p =
     record { placed = on.placed; less = omega (arith, on.less, a.less) }
 
 -- what doesn't touch a lane's pieces and rings leaves it where it stands
-moved : (words : ℕ) (outs : List Outcome) (lane : ℕ) (past now : List Mark) (place : Place) → pieces lane now ≡ pieces lane past → rings lane now ≡ rings lane past → StandsIn words outs lane past place → StandsIn words outs lane now place
+pub moved : (words : ℕ) (outs : List Outcome) (lane : ℕ) (past now : List Mark) (place : Place) → pieces lane now ≡ pieces lane past → rings lane now ≡ rings lane past → StandsIn words outs lane past place → StandsIn words outs lane now place
 moved words outs lane past now AtRest pe re s = record {
   counted = re ∙ s.counted ∙ ap (λ ps. length ps + 0) (sym pe);
   before = let P : List (List _) → Type 0 = λ ps. AreWhole words outs lane ps in subst P (sym pe) s.before;
@@ -174,7 +174,7 @@ moved words outs lane past now (Answering len values position outcome stored) pe
     (record { older = s.0.older; split = pe ∙ s.0.split; counted = re ∙ s.0.counted ∙ ap length (sym pe); before = s.0.before }, s.1)
 
 -- one outcome more leaves it there too
-told_more : (words : ℕ) (outs more : List Outcome) (lane : ℕ) (past : List Mark) (place : Place) → StandsIn words outs lane past place → StandsIn words (outs ++ more) lane past place
+pub told_more : (words : ℕ) (outs more : List Outcome) (lane : ℕ) (past : List Mark) (place : Place) → StandsIn words outs lane past place → StandsIn words (outs ++ more) lane past place
 told_more words outs more lane past AtRest s = record { counted = s.counted; before = whole_stay words outs more lane (pieces lane past) s.before }
 told_more words outs more lane past Called s = record { counted = s.counted; before = whole_stay words outs more lane (pieces lane past) s.before }
 told_more words outs more lane past (Capturing len values) s =
@@ -185,7 +185,7 @@ told_more words outs more lane past (Answering len values position outcome store
 )
 
 -- marks of another lane
-other_lane : {X : Type 0} (other lane : ℕ) (x y : X) → (other ≡ lane → ⊥) → (if other == lane then x else y) ≡ y
+pub other_lane : {X : Type 0} (other lane : ℕ) (x y : X) → (other ≡ lane → ⊥) → (if other == lane then x else y) ≡ y
 other_lane other lane x y h = ap (λ b. if b then x else y) (ne_eqb other lane h)
 
 made_other : {M : Type 0} (step : M → Request → Outcome × M) (m : M) (words lane other : ℕ) (past : List Mark) (a : Action) → (other ≡ lane → ⊥) → Placed step m words lane past → Placed step m words lane (made other a past)

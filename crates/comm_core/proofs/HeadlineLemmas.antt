@@ -1,6 +1,6 @@
 -- From what a world stands for to its headline.
-use Rattle.std.proofs.Common.{◌≡◌, ℕ, zero, suc, ◌+◌, ◌-◌, ◌==◌, Bool, true, false, if◌then◌else◌, ◌&&◌, nat_lt, List, [], ◌∷◌, ◌++◌, length, map, take, drop, reverse, Option, Some, None, unwrap_or, refl, sym, ap, ◌∙◌, subst, arith, inl, inr}
-use Rattle.std.proofs.lemmas.Bool.{cases_lt, eqb-true, eqb-false, ne_eqb}
+use Rattle.std.proofs.Common.{◌≡◌, ℕ, zero, suc, ◌+◌, ◌==◌, Bool, true, false, if◌then◌else◌, ◌&&◌, nat_lt, List, [], ◌∷◌, ◌++◌, length, map, take, drop, reverse, Option, Some, None, unwrap_or, refl, sym, ap, ◌∙◌, subst, arith}
+use Rattle.std.proofs.lemmas.Bool.{eqb-true, eqb-false, ne_eqb}
 use Rattle.std.proofs.lemmas.List.{append-nil, map-append, reverse-append}
 use Rattle.std.proofs.lemmas.Option.{none-some, same_Some, slice_get-map}
 use Rattle.std.specs.List.{slice_get}
@@ -26,8 +26,9 @@ use Rattle.comm_core.specs.declared.event.Event.TheVariants.{Ring, Poke, Steps, 
 use Rattle.comm_core.specs.declared.trace.Trace.{Trace}
 use Rattle.comm_core.specs.declared.trace.Trace.TheVariants.{Loaded, Stored, Poked, Turned}
 use Rattle.comm_core.proofs.CourseLemmas.{IsBounded, Placed, acts_any, happens_placed, course_placed}
+use Rattle.comm_core.proofs.LaneLemmas.{last_or_front}
 use Rattle.comm_core.proofs.LawLemmas.{served, one_whole, older_whole, loads_answered, each_begins}
-use Rattle.comm_core.proofs.PieceLemmas.{slice_get-front, slice_get-behind, turn_in-made, receipt_at-told}
+use Rattle.comm_core.proofs.PieceLemmas.{turn_in-made, receipt_at-told}
 use Rattle.comm_core.proofs.StandingLemmas.{next_of_place, pieces-loaded_length, pieces-loaded, pieces-stored, pieces-turned}
 
 -- a trace tells what its past does
@@ -255,18 +256,6 @@ tells_store l word value past p older split t =
           (λ lane other. elsewhere l lane _ _ other) (t.entered position request h);
     }
 
--- one of a list with one more is one of the list, or that one
-last_or_front : {X : Type 0} (xs : List X) (x y : X) (i : ℕ) (P : Type 0) → slice_get (xs ++ x ∷ []) i ≡ Some y → (slice_get xs i ≡ Some y → P) → (i ≡ length xs → x ≡ y → P) → P
-last_or_front xs x y i P h front last =
-    elim (cases_lt i (length xs)) [
-      | inl less ↦ front (sym (slice_get-front xs (x ∷ []) i less) ∙ h)
-      | inr more ↦ by (i - length xs) (omega (arith, more))
-    ]
-  where
-    by : (j : ℕ) → i ≡ length xs + j → P
-    by zero e = last (e ∙ omega arith) (same_Some x y (sym (slice_get-behind xs (x ∷ []) i 0 e) ∙ h))
-    by (suc j) e = absurd (none-some y (sym (slice_get-behind xs (x ∷ []) i (suc j) e) ∙ h))
-
 -- the turn, which makes an entry
 tells_turn : (l : ℕ) (past : List Mark) (p : List Trace) (older : List (List Trace)) → pieces l past ≡ p ∷ older → turn_in p ≡ None → Tells past → Tells (Did (Turned l (length (requests past))) ∷ past)
 tells_turn l past p older split none t =
@@ -457,5 +446,5 @@ headline_of {M} step m events w bounded s =
           subst B (sym are_outs) (each_begins w.words outs lane past (k.placed lane).place 0 piece (k.placed lane).stands (ap (λ ps. slice_get ps 0) (sym (are_pieces lane)) ∙ h));
       one_thread = s.entries ∙ ap (replayed step m) (sym is_requests);
       state = s.now ∙ ap (left_by step m) (sym is_requests);
-      lane = λ word h. s.lane word h ∙ sym (value_told 0 word past) ∙ ap (λ t. value_at 0 word (marks_of t)) (sym s.trace);
+      lanes = λ lane seen word there h. (s.each lane seen there).values word h ∙ sym (value_told lane word past) ∙ ap (λ t. value_at lane word (marks_of t)) (sym s.trace);
     }

@@ -1,6 +1,7 @@
 pub mod AnswerLemmas
 pub mod CourseLemmas
 pub mod HeadlineLemmas
+pub mod LaneLemmas
 pub mod LawLemmas
 pub mod PieceLemmas
 pub mod ProcessorLemmas

@@ -5,7 +5,7 @@ use Rattle.mm_base.specs.Numbers.{bytes_of_word, words_for}
 use Rattle.mm_base.specs.Prepared.{Readied}
 use Rattle.mm_base.specs.declared.receipt.Receipt.{Receipt}
 use Rattle.comm_core.specs.Piece.{needed, answer}
-use Rattle.comm_core.specs.Processor.{behind_fed, behind_load, behind_store, IsSound, IsBlank, IsAnswering, MayRing, MayAnswer, MayFeed, MayLoad, MayFeedSoundly, MayLoadSoundly, MayStoreSoundly}
+use Rattle.comm_core.specs.Processor.{to_come, behind_fed, behind_load, behind_store, IsSound, IsBlank, IsAnswering, MayRing, MayAnswer, MayFeed, MayLoad, MayFeedSoundly, MayLoadSoundly, MayStoreSoundly}
 use Rattle.comm_core.specs.declared.processor.Stage.{Stage}
 use Rattle.comm_core.specs.declared.processor.Stage.TheVariants.{Resting, Rung, Loading, Turning, Storing}
 use Rattle.comm_core.specs.declared.processor.Fed.{Fed}
@@ -31,6 +31,14 @@ length-answer_within words receipt h =
       | true ↦ λ d. omega (arith, length-answer_dispatched receipt d)
       | false ↦ λ d. omega (arith, length-answer_refused receipt d)
     ] refl
+
+-- a ring has at most so many records to make
+pub to_come_within : (words : ℕ) (stage : Stage) → words ≤ 512 → IsSound words stage → to_come words stage ≤ 1028
+to_come_within words Resting w s = omega arith
+to_come_within words (Rung prepared saved) w s = omega (arith, w)
+to_come_within words (Loading prepared saved len loaded) w s = omega (arith, w)
+to_come_within words (Turning bytes) w s = omega (arith, w)
+to_come_within words (Storing receipt stored) w s = omega (arith, w, length-answer_within words receipt s.fits)
 
 load_sound : (words value : ℕ) (stage : Stage) → IsSound words stage → MayLoad words stage → IsSound words (behind_load stage value)
 load_sound words value Resting s m = tt

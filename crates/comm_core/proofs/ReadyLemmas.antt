@@ -1,9 +1,11 @@
 -- What a world keeps ready for a ring under way, and that each action leaves it so.
-use Rattle.std.proofs.Common.{◌≡◌, ◌≤◌, ◌<◌, ℕ, zero, suc, ◌+◌, ◌-◌, ◌*◌, ◌^◌, ◌==◌, true, false, if◌then◌else◌, nat_lt, List, [], ◌∷◌, ◌++◌, length, map, take, max, get_or, unwrap_or, refl, sym, ap, ◌∙◌, subst, arith, length-append}
-use Rattle.std.specs.List.{slice_get}
+use Rattle.std.proofs.Common.{◌≡◌, ◌≤◌, ◌<◌, ℕ, zero, suc, ◌+◌, ◌-◌, ◌*◌, ◌^◌, ◌==◌, true, false, if◌then◌else◌, nat_lt, List, [], ◌∷◌, ◌++◌, length, map, take, max, get_or, unwrap_or, slice_set, Some, refl, sym, ap, ◌∙◌, subst, arith, length-append}
+use Rattle.std.proofs.Math.ListN.{length-set}
+use Rattle.std.specs.List.{slice_get, sum_by}
 use Rattle.std.specs.Option.{option_map}
 use Rattle.std.proofs.lemmas.Bool.{ltb-true, ltb-false}
-use Rattle.std.proofs.lemmas.Option.{slice_get-map, slice_get-get_or}
+use Rattle.std.proofs.lemmas.List.{length-replicate}
+use Rattle.std.proofs.lemmas.Option.{slice_get-map, slice_get-get_or, slice_get_within, get_or_from_slice_get}
 use Rattle.mm_base.specs.Numbers.{words_for, words_of_bytes}
 use Rattle.mm_base.specs.Room.{Roomy}
 use Rattle.mm_base.specs.Prepared.{Readied, Suffices}
@@ -11,9 +13,9 @@ use Rattle.mm_base.specs.declared.cells.Saved.{Saved}
 use Rattle.mm_base.specs.declared.receipt.Receipt.{Receipt}
 use Rattle.comm_core.specs.Capture.{longest}
 use Rattle.comm_core.specs.Piece.{needed, answer, store, from_word}
-use Rattle.comm_core.specs.Processor.{ProcessorState, is_resting, IsSound, IsBlank, MayRing, sealed, next_action, behind_load, behind_store, to_come, MayLoad, MayStore, MayTake}
-use Rattle.comm_core.specs.World.{IsReady, HasRoom, IsRoomy, turns_to_come}
-use Rattle.comm_core.specs.Transitions.{asked}
+use Rattle.comm_core.specs.Processor.{is_resting, IsSound, IsBlank, MayRing, sealed, next_action, behind_load, behind_store, to_come, MayLoad, MayStore, MayTake}
+use Rattle.comm_core.specs.World.{LaneState, IsReady, IsLaneReady, HasRoom, IsRoomy, turns_to_come}
+use Rattle.comm_core.specs.Transitions.{asked, no_lane, new_lanes, records_left, lane_rung, lane_loaded, lane_answered, lane_stored, lane_poked}
 use Rattle.comm_core.specs.declared.action.Action.{Action}
 use Rattle.comm_core.specs.declared.action.Action.TheVariants.{Rest, Load, Turn, Store}
 use Rattle.comm_core.specs.declared.processor.Stage.{Stage}
@@ -21,6 +23,7 @@ use Rattle.comm_core.specs.declared.processor.Stage.TheVariants.{Resting, Rung, 
 use Rattle.comm_core.specs.declared.trace.Trace.{Trace}
 use Rattle.comm_core.proofs.ProcessorLemmas.{needed_within, length-answer_within}
 use Rattle.comm_core.proofs.AnswerLemmas.{length-first_words}
+use Rattle.comm_core.proofs.LaneLemmas.{after_set, sum_changed, sum_within, part_of_sum, same_sum, turns_within, length-new_lanes, new_lane_there, sum-new_lanes}
 
 -- what an answer has next is a store or nothing
 pub data IsStoreOrRest : Action → Type 0 where
@@ -108,25 +111,53 @@ load_turns value (Loading prepared saved len loaded) = refl
 load_turns value (Turning bytes) = refl
 load_turns value (Storing receipt stored) = refl
 
--- a record finds its room where an action is next
-pub room_for_load : (words ll calls : ℕ) (p : ProcessorState) (n : ℕ) (t : Roomy Trace) (word : ℕ) → IsReady words ll calls p n t → next_action words p.stage ≡ Load word → length t.items < t.room
-room_for_load words ll calls p n t word r e = omega (arith, r.records, load_counts words word 0 p.stage e)
+-- the next action of a lane that is looked up
+pub next_there : (words : ℕ) (lanes : List LaneState) (lane : ℕ) (at : LaneState) (a : Action) → slice_get lanes lane ≡ Some at → next_action words (get_or lanes lane no_lane).processor.stage ≡ a → next_action words at.processor.stage ≡ a
+next_there words lanes lane at a there e =
+    ap (λ (x : LaneState). next_action words x.processor.stage) (sym (get_or_from_slice_get lanes lane at no_lane there)) ∙ e
 
--- a world stays ready behind a load
-pub ready_load : (words ll calls : ℕ) (p q : ProcessorState) (n : ℕ) (t u : Roomy Trace) (made : Trace) (word value : ℕ) → IsReady words ll calls p n t → next_action words p.stage ≡ Load word → q ≡ record p { stage = behind_load p.stage value } → u ≡ record { items = t.items ++ made ∷ []; room = t.room } → IsReady words ll calls q n u
-ready_load words ll calls p q n t u made word value r e qe ue =
-    let P : ProcessorState → Type 0 = λ x. IsReady words ll calls x n u in
-    let Q : Roomy Trace → Type 0 = λ y. IsReady words ll calls (record p { stage = behind_load p.stage value }) n y in
-    subst P (sym qe) (subst Q (sym ue) record {
+pub found_there : (words : ℕ) (lanes : List LaneState) (lane : ℕ) (at : LaneState) (a : Action) → slice_get lanes lane ≡ Some at → at.processor.words ≡ words → a ≡ next_action at.processor.words at.processor.stage → next_action words (get_or lanes lane no_lane).processor.stage ≡ a
+found_there words lanes lane at a there ws e =
+    ap (λ (x : LaneState). next_action words x.processor.stage) (get_or_from_slice_get lanes lane at no_lane there)
+    ∙ ap (λ (n : ℕ). next_action n at.processor.stage) (sym ws) ∙ sym e
+
+-- a record finds its room where more records of some lane are to come
+pub room_for : (words : ℕ) (lanes : List LaneState) (calls n : ℕ) (t : Roomy Trace) (lane : ℕ) (at : LaneState) → IsReady words lanes calls n t → slice_get lanes lane ≡ Some at → 1 ≤ to_come words at.processor.stage → length t.items < t.room
+room_for words lanes calls n t lane at r there more =
+    omega (arith, r.records, part_of_sum (λ (x : LaneState). to_come words x.processor.stage) lanes lane at there, more)
+
+-- a world stays ready where one lane makes a record
+ready_made : (words : ℕ) (lanes : List LaneState) (calls n now_n : ℕ) (t u : Roomy Trace) (made : Trace) (lane : ℕ) (at acted : LaneState) → IsReady words lanes calls n t → slice_get lanes lane ≡ Some at → IsLaneReady words calls lane acted → to_come words acted.processor.stage + 1 ≤ to_come words at.processor.stage → now_n + turns_to_come acted.processor.stage ≤ n + turns_to_come at.processor.stage → u ≡ record { items = t.items ++ made ∷ []; room = t.room } → IsReady words (slice_set lanes lane acted) calls now_n u
+ready_made words lanes calls n now_n t u made lane at acted r there ready less turns ue =
+    let Q : Roomy Trace → Type 0 = λ y. IsReady words (slice_set lanes lane acted) calls now_n y in
+    subst Q (sym ue) record {
       low = r.low;
       high = r.high;
-      lane = r.lane;
-      processor_lane = r.processor_lane;
-      processor_words = r.processor_words;
-      memory = load_room words calls value p.stage r.memory;
-      records = omega (arith, length-append t.items (made ∷ []), r.records, load_counts words word value p.stage e);
-      turns_fit = omega (arith, r.turns_fit, load_turns value p.stage);
-    })
+      few = omega (arith, r.few, length-set lanes lane acted);
+      each = after_set lanes lane acted (λ k x. IsLaneReady words calls k x) (slice_get_within lanes lane at there) ready (λ k x apart here. r.each k x here);
+      records = omega (arith, length-append t.items (made ∷ []), r.records, less, sum_changed (λ (x : LaneState). to_come words x.processor.stage) lanes lane at acted there);
+      turns_fit = omega (arith, r.turns_fit, turns, sum_changed (λ (x : LaneState). turns_to_come x.processor.stage) lanes lane at acted there);
+    }
+
+pub room_for_load : (words : ℕ) (lanes : List LaneState) (calls n : ℕ) (t : Roomy Trace) (lane : ℕ) (at : LaneState) (word : ℕ) → IsReady words lanes calls n t → slice_get lanes lane ≡ Some at → next_action words at.processor.stage ≡ Load word → length t.items < t.room
+room_for_load words lanes calls n t lane at word r there e =
+    room_for words lanes calls n t lane at r there (omega (arith, load_counts words word 0 at.processor.stage e))
+
+-- a world stays ready behind a load
+pub ready_load : (words : ℕ) (lanes : List LaneState) (calls n : ℕ) (t u : Roomy Trace) (made : Trace) (lane : ℕ) (at acted : LaneState) (word : ℕ) → IsReady words lanes calls n t → slice_get lanes lane ≡ Some at → next_action words at.processor.stage ≡ Load word → acted ≡ lane_loaded at word → u ≡ record { items = t.items ++ made ∷ []; room = t.room } → IsReady words (slice_set lanes lane acted) calls n u
+ready_load words lanes calls n t u made lane at acted word r there e ae ue =
+    let P : LaneState → Type 0 = λ x. IsReady words (slice_set lanes lane x) calls n u in
+    let own = r.each lane at there in
+    let value : ℕ = get_or at.values word 0 in
+    let ready : IsLaneReady words calls lane (lane_loaded at word) = record {
+      number = own.number;
+      words_are = own.words_are;
+      size = own.size;
+      memory = load_room words calls value at.processor.stage own.memory;
+    } in
+    subst P (sym ae)
+    (ready_made words lanes calls n n t u made lane at (lane_loaded at word) r there ready (load_counts words word value at.processor.stage e)
+    (omega (arith, load_turns value at.processor.stage)) ue)
 
 -- a store is fed where it is next
 pub may_store : (words word value : ℕ) (stage : Stage) → next_action words stage ≡ Store word value → MayStore stage
@@ -170,22 +201,51 @@ store_turns (Turning bytes) = refl
 store_turns (Storing receipt stored) =
     elim (stored + 1 == length (answer receipt)) as (λ b. turns_to_come (if b then Resting else Storing receipt (stored + 1)) ≡ 0) [ true ↦ refl | false ↦ refl ]
 
-pub room_for_store : (words ll calls : ℕ) (p : ProcessorState) (n : ℕ) (t : Roomy Trace) (word value : ℕ) → IsReady words ll calls p n t → next_action words p.stage ≡ Store word value → length t.items < t.room
-room_for_store words ll calls p n t word value r e = omega (arith, r.records, store_counts words word value p.stage e)
+pub room_for_store : (words : ℕ) (lanes : List LaneState) (calls n : ℕ) (t : Roomy Trace) (lane : ℕ) (at : LaneState) (word value : ℕ) → IsReady words lanes calls n t → slice_get lanes lane ≡ Some at → next_action words at.processor.stage ≡ Store word value → length t.items < t.room
+room_for_store words lanes calls n t lane at word value r there e =
+    room_for words lanes calls n t lane at r there (omega (arith, store_counts words word value at.processor.stage e))
 
-pub ready_store : (words ll now_ll calls : ℕ) (p q : ProcessorState) (n : ℕ) (t u : Roomy Trace) (made : Trace) (word value : ℕ) → IsReady words ll calls p n t → next_action words p.stage ≡ Store word value → now_ll ≡ ll → q ≡ record p { stage = behind_store p.stage } → u ≡ record { items = t.items ++ made ∷ []; room = t.room } → IsReady words now_ll calls q n u
-ready_store words ll now_ll calls p q n t u made word value r e le qe ue =
-    let P : ProcessorState → Type 0 = λ x. IsReady words now_ll calls x n u in
-    let Q : Roomy Trace → Type 0 = λ y. IsReady words now_ll calls (record p { stage = behind_store p.stage }) n y in
-    subst P (sym qe) (subst Q (sym ue) record {
+pub ready_store : (words : ℕ) (lanes : List LaneState) (calls n : ℕ) (t u : Roomy Trace) (made : Trace) (lane : ℕ) (at acted : LaneState) (word value : ℕ) → IsReady words lanes calls n t → slice_get lanes lane ≡ Some at → next_action words at.processor.stage ≡ Store word value → acted ≡ lane_stored at word value → u ≡ record { items = t.items ++ made ∷ []; room = t.room } → IsReady words (slice_set lanes lane acted) calls n u
+ready_store words lanes calls n t u made lane at acted word value r there e ae ue =
+    let P : LaneState → Type 0 = λ x. IsReady words (slice_set lanes lane x) calls n u in
+    let own = r.each lane at there in
+    let ready : IsLaneReady words calls lane (lane_stored at word value) = record {
+      number = own.number;
+      words_are = own.words_are;
+      size = length-set at.values word value ∙ own.size;
+      memory = store_room words calls at.processor.stage own.memory;
+    } in
+    subst P (sym ae)
+    (ready_made words lanes calls n n t u made lane at (lane_stored at word value) r there ready (store_counts words word value at.processor.stage e)
+    (omega (arith, store_turns at.processor.stage)) ue)
+
+-- how many records are to come, as the code counts them
+pub left_is : (words : ℕ) (lanes : List LaneState) (calls n : ℕ) (t : Roomy Trace) → IsReady words lanes calls n t → records_left lanes ≡ sum_by (λ (x : LaneState). to_come words x.processor.stage) lanes
+left_is words lanes calls n t r =
+    same_sum (λ (x : LaneState). to_come x.processor.words x.processor.stage) (λ (x : LaneState). to_come words x.processor.stage) lanes
+    (λ k x here. ap (λ w. to_come w x.processor.stage) (r.each k x here).words_are)
+
+-- a world is ready behind a poke
+pub ready_poke : (words : ℕ) (lanes : List LaneState) (calls n left : ℕ) (t reserved u : Roomy Trace) (made : Trace) (lane : ℕ) (at acted : LaneState) (word value : ℕ) → IsReady words lanes calls n t → slice_get lanes lane ≡ Some at → acted ≡ lane_poked at word value → left ≡ records_left lanes → reserved ≡ record { items = t.items; room = max t.room (length t.items + (left + 1)) } → u ≡ record { items = reserved.items ++ made ∷ []; room = reserved.room } → IsReady words (slice_set lanes lane acted) calls n u
+ready_poke words lanes calls n left t reserved u made lane at acted word value r there ae le re ue =
+    let P : LaneState → Type 0 = λ x. IsReady words (slice_set lanes lane x) calls n u in
+    let now : LaneState = lane_poked at word value in
+    let Q : Roomy Trace → Type 0 = λ y. IsReady words (slice_set lanes lane now) calls n y in
+    let own = r.each lane at there in
+    let ready : IsLaneReady words calls lane now = record {
+      number = own.number;
+      words_are = own.words_are;
+      size = length-set at.values word value ∙ own.size;
+      memory = own.memory;
+    } in
+    let room = ue ∙ ap (λ (x : Roomy Trace). record { items = x.items ++ made ∷ []; room = x.room }) re in
+    subst P (sym ae) (subst Q (sym room) record {
       low = r.low;
       high = r.high;
-      lane = le ∙ r.lane;
-      processor_lane = r.processor_lane;
-      processor_words = r.processor_words;
-      memory = store_room words calls p.stage r.memory;
-      records = omega (arith, length-append t.items (made ∷ []), r.records, store_counts words word value p.stage e);
-      turns_fit = omega (arith, r.turns_fit, store_turns p.stage);
+      few = omega (arith, r.few, length-set lanes lane now);
+      each = after_set lanes lane now (λ k x. IsLaneReady words calls k x) (slice_get_within lanes lane at there) ready (λ k x apart here. r.each k x here);
+      records = omega (arith, length-append t.items (made ∷ []), r.records, le, left_is words lanes calls n t r, sum_changed (λ (x : LaneState). to_come words x.processor.stage) lanes lane at now there);
+      turns_fit = omega (arith, r.turns_fit, sum_changed (λ (x : LaneState). turns_to_come x.processor.stage) lanes lane at now there);
     })
 
 -- the stores are to words below this one
@@ -261,14 +321,14 @@ suffices words calls lane (Turning bytes) p r e s b = absurd r
 suffices words calls lane (Storing receipt stored) p r e s b = absurd (never_turn _ (next_is_store (answer receipt) stored) e)
 
 -- the request that is handed out is the one that was captured
-pub request_asked : (words calls lane : ℕ) (stage : Stage) (p : Readied) → HasRoom words calls stage → next_action words stage ≡ Turn → lane ≡ 0 → p ≡ sealed lane stage p → p.entry.request ≡ asked stage
-request_asked words calls lane Resting p r e l s = absurd cc
-request_asked words calls lane (Rung prepared saved) p r e l s = absurd cc
-request_asked words calls lane (Loading prepared saved len loaded) p r e l s =
+pub request_asked : (words calls number lane : ℕ) (stage : Stage) (p : Readied) → HasRoom words calls stage → next_action words stage ≡ Turn → number ≡ lane → p ≡ sealed number stage p → p.entry.request ≡ asked lane stage
+request_asked words calls number lane Resting p r e l s = absurd cc
+request_asked words calls number lane (Rung prepared saved) p r e l s = absurd cc
+request_asked words calls number lane (Loading prepared saved len loaded) p r e l s =
     ap (λ (x : Readied). x.entry.request) s
     ∙ ap (λ n. record { lane = n; length = len; bytes = take len prepared.captured.items; saved = saved }) l
-request_asked words calls lane (Turning bytes) p r e l s = absurd r
-request_asked words calls lane (Storing receipt stored) p r e l s = absurd (never_turn _ (next_is_store (answer receipt) stored) e)
+request_asked words calls number lane (Turning bytes) p r e l s = absurd r
+request_asked words calls number lane (Storing receipt stored) p r e l s = absurd (never_turn _ (next_is_store (answer receipt) stored) e)
 
 turn_counts : (words calls : ℕ) (stage : Stage) → HasRoom words calls stage → next_action words stage ≡ Turn → (words + 3 ≤ to_come words stage) × (turns_to_come stage ≡ 1)
 turn_counts words calls Resting r e = absurd cc
@@ -277,27 +337,22 @@ turn_counts words calls (Loading prepared saved len loaded) r e = (omega arith, 
 turn_counts words calls (Turning bytes) r e = absurd r
 turn_counts words calls (Storing receipt stored) r e = absurd (never_turn _ (next_is_store (answer receipt) stored) e)
 
-pub room_for_turn : (words ll calls : ℕ) (p : ProcessorState) (n : ℕ) (t : Roomy Trace) → IsReady words ll calls p n t → next_action words p.stage ≡ Turn → (length t.items < t.room) × (n + 1 ≤ 2 ^ 32)
-room_for_turn words ll calls p n t r e =
-    let k = turn_counts words calls p.stage r.memory e in
-    (omega (arith, r.records, k.0), omega (arith, r.turns_fit, k.1))
+pub room_for_turn : (words : ℕ) (lanes : List LaneState) (calls n : ℕ) (t : Roomy Trace) (lane : ℕ) (at : LaneState) → IsReady words lanes calls n t → slice_get lanes lane ≡ Some at → next_action words at.processor.stage ≡ Turn → length t.items < t.room
+room_for_turn words lanes calls n t lane at r there e =
+    room_for words lanes calls n t lane at r there (omega (arith, (turn_counts words calls at.processor.stage (r.each lane at there).memory e).0))
 
 -- a world stays ready behind a turn
-pub ready_turn : (words ll calls now_calls : ℕ) (p q : ProcessorState) (n now_n : ℕ) (t u : Roomy Trace) (made : Trace) (receipt : Receipt) → IsReady words ll calls p n t → next_action words p.stage ≡ Turn → length receipt.bytes ≤ 8 * words → now_n ≡ n + 1 → q ≡ record p { stage = Storing receipt 0 } → u ≡ record { items = t.items ++ made ∷ []; room = t.room } → IsReady words ll now_calls q now_n u
-ready_turn words ll calls now_calls p q n now_n t u made receipt r e b ne qe ue =
-    let k = turn_counts words calls p.stage r.memory e in
-    let P : ProcessorState → Type 0 = λ x. IsReady words ll now_calls x now_n u in
-    let Q : Roomy Trace → Type 0 = λ y. IsReady words ll now_calls (record p { stage = Storing receipt 0 }) now_n y in
-    subst P (sym qe) (subst Q (sym ue) record {
-      low = r.low;
-      high = r.high;
-      lane = r.lane;
-      processor_lane = r.processor_lane;
-      processor_words = r.processor_words;
-      memory = tt;
-      records = omega (arith, length-append t.items (made ∷ []), r.records, k.0, length-answer_within words receipt b);
-      turns_fit = omega (arith, r.turns_fit, k.1, ne);
-    })
+pub ready_turn : (words : ℕ) (lanes : List LaneState) (calls now_calls n now_n : ℕ) (t u : Roomy Trace) (made : Trace) (lane : ℕ) (at acted : LaneState) (receipt : Receipt) → IsReady words lanes calls n t → slice_get lanes lane ≡ Some at → next_action words at.processor.stage ≡ Turn → length receipt.bytes ≤ 8 * words → now_calls ≡ calls → now_n ≡ n + 1 → acted ≡ lane_answered at receipt → u ≡ record { items = t.items ++ made ∷ []; room = t.room } → IsReady words (slice_set lanes lane acted) now_calls now_n u
+ready_turn words lanes calls now_calls n now_n t u made lane at acted receipt r there e b ce ne ae ue =
+    let P : LaneState → Type 0 = λ x. IsReady words (slice_set lanes lane x) now_calls now_n u in
+    let Q : ℕ → Type 0 = λ k. IsReady words (slice_set lanes lane (lane_answered at receipt)) k now_n u in
+    let own = r.each lane at there in
+    let k = turn_counts words calls at.processor.stage own.memory e in
+    let ready : IsLaneReady words calls lane (lane_answered at receipt) =
+    record { number = own.number; words_are = own.words_are; size = own.size; memory = tt } in
+    subst P (sym ae) (subst Q (sym ce)
+    (ready_made words lanes calls n now_n t u made lane at (lane_answered at receipt) r there ready
+    (omega (arith, k.0, length-answer_within words receipt b)) (omega (arith, k.1, ne)) ue))
 
 -- only a resting processor has nothing next
 pub rest_resting : (words : ℕ) (stage : Stage) → IsSound words stage → next_action words stage ≡ Rest → is_resting stage ≡ true
@@ -321,17 +376,32 @@ may_ring words (Turning bytes) prepared e b = absurd cc
 may_ring words (Storing receipt stored) prepared e b = absurd cc
 
 -- a world is ready behind an accepted ring
-pub ready_ring : (words ll calls : ℕ) (p q : ProcessorState) (n : ℕ) (t u : Roomy Trace) (prepared : Readied) (saved : Saved) → IsReady words ll calls p n t → is_resting p.stage ≡ true → n < 2 ^ 32 → IsRoomy words calls prepared → q ≡ record p { stage = Rung prepared saved } → u ≡ record { items = t.items; room = max t.room (length t.items + longest words) } → IsReady words ll calls q n u
-ready_ring words ll calls p q n t u prepared saved r e few roomy qe ue =
-    let P : ProcessorState → Type 0 = λ x. IsReady words ll calls x n u in
-    let Q : Roomy Trace → Type 0 = λ y. IsReady words ll calls (record p { stage = Rung prepared saved }) n y in
-    subst P (sym qe) (subst Q (sym ue) record {
+pub ready_ring : (words : ℕ) (lanes : List LaneState) (calls n left most : ℕ) (t u : Roomy Trace) (lane : ℕ) (at acted : LaneState) (prepared : Readied) (saved : Saved) → IsReady words lanes calls n t → slice_get lanes lane ≡ Some at → is_resting at.processor.stage ≡ true → n < 2 ^ 32 → IsRoomy words calls prepared → acted ≡ lane_rung at prepared saved → left ≡ records_left lanes → most ≡ longest words → u ≡ record { items = t.items; room = max t.room (length t.items + (left + most)) } → IsReady words (slice_set lanes lane acted) calls n u
+ready_ring words lanes calls n left most t u lane at acted prepared saved r there e few roomy ae le me ue =
+    let P : LaneState → Type 0 = λ x. IsReady words (slice_set lanes lane x) calls n u in
+    let now : LaneState = lane_rung at prepared saved in
+    let Q : Roomy Trace → Type 0 = λ y. IsReady words (slice_set lanes lane now) calls n y in
+    let own = r.each lane at there in
+    let ready : IsLaneReady words calls lane now = record { number = own.number; words_are = own.words_are; size = own.size; memory = roomy } in
+    let counted : length (slice_set lanes lane now) ≡ length lanes = length-set lanes lane now in
+    subst P (sym ae) (subst Q (sym ue) record {
       low = r.low;
       high = r.high;
-      lane = r.lane;
-      processor_lane = r.processor_lane;
-      processor_words = r.processor_words;
-      memory = roomy;
-      records = omega arith;
-      turns_fit = omega arith;
+      few = omega (arith, r.few, counted);
+      each = after_set lanes lane now (λ k x. IsLaneReady words calls k x) (slice_get_within lanes lane at there) ready (λ k x apart here. r.each k x here);
+      records = omega (arith, le, me, left_is words lanes calls n t r, sum_changed (λ (x : LaneState). to_come words x.processor.stage) lanes lane at now there);
+      turns_fit = omega (arith, few, r.few, counted, sum_within (λ (x : LaneState). turns_to_come x.processor.stage) 1 (slice_set lanes lane now) (λ x. turns_within x.processor.stage));
     })
+
+-- a new world is ready
+pub ready_new : (words lanes calls : ℕ) → 3 ≤ words → words ≤ 512 → lanes ≤ 16 → IsReady words (new_lanes words lanes) calls 0 (record { items = []; room = 0 })
+ready_new words lanes calls low high few = record {
+  low = low;
+  high = high;
+  few = omega (arith, few, length-new_lanes words lanes);
+  each = λ lane seen here.
+      let P : LaneState → Type 0 = λ x. IsLaneReady words calls lane x in
+      subst P (sym (new_lane_there words lanes lane seen here)) record { number = refl; words_are = refl; size = length-replicate (words + 2) 0; memory = tt };
+  records = omega (arith, sum-new_lanes (λ (x : LaneState). to_come words x.processor.stage) words lanes (λ lane. refl));
+  turns_fit = omega (arith, sum-new_lanes (λ (x : LaneState). turns_to_come x.processor.stage) words lanes (λ lane. refl));
+}

@@ -10,7 +10,7 @@ use Rattle.mm_history.specs.History.{requests_of}
 use Rattle.comm_core.specs.Piece.{whole, length_in, turn_in, receipt_at, request_in}
 use Rattle.comm_core.specs.Capture.{Mark, Rung, Did, marks_of, pieces_in, value_at}
 use Rattle.comm_core.specs.Laws.{Begins, LoadsOnce, IsServed, action_of}
-use Rattle.comm_core.specs.World.{WorldState, StandsFor}
+use Rattle.comm_core.specs.World.{LaneState, WorldState, StandsFor}
 use Rattle.comm_core.specs.declared.event.Event.{Event}
 use Rattle.comm_core.specs.declared.trace.Trace.{Trace}
 use Rattle.comm_core.specs.declared.trace.Trace.TheVariants.{Loaded, Stored, Poked, Turned}
@@ -55,7 +55,7 @@ pub record WasCapturedOnce (words : ℕ) (trace : List Trace) (position : ℕ) (
   pub once : LoadsOnce words piece
   pub in_order : Begins (map action_of piece) (whole words entry.request.length (Some (told position entry.outcome)))
 
--- The headline of a world that was driven from this machine value, whoever stored what to its lane meanwhile:
+-- The headline of a world that was driven from this machine value, whoever stored what to its lanes meanwhile:
 -- * each load of its trace gave what stood in the word;
 -- * the turns of its trace are those of its entries, in recorded order, one for each;
 -- * each entry was captured once;
@@ -64,7 +64,7 @@ pub record WasCapturedOnce (words : ℕ) (trace : List Trace) (position : ℕ) (
 -- * its entries are what the machine by itself makes of the captured requests, one after another: the replies, statuses,
 --   invocations, denials and cell writes in them;
 -- * its machine is what that leaves;
--- * each word of its lane has the value of the last store or poke to it.
+-- * each word of each of its lanes has the value of the last store or poke to it.
 pub record Headline {M : Type 0} (step : M → Request → Outcome × M) (machine : M) (w : WorldState M) : Type 0 where
   pub true_loads : TellsTrue (marks_of w.trace)
   pub turns : turns_in w.trace ≡ numbered 0 (requests_of w.entries)
@@ -73,7 +73,7 @@ pub record Headline {M : Type 0} (step : M → Request → Outcome × M) (machin
   pub begun : (lane : ℕ) (piece : List Trace) → slice_get (pieces_in lane w.trace) 0 ≡ Some piece → Begins (map action_of piece) (whole w.words (length_in piece) (receipt_at (outcomes_in w.entries) (turn_in piece)))
   pub one_thread : w.entries ≡ replayed step machine (requests_of w.entries)
   pub state : w.machine ≡ left_by step machine (requests_of w.entries)
-  pub lane : (word : ℕ) → word < length w.lane → slice_index w.lane word ≡ value_at 0 word (marks_of w.trace)
+  pub lanes : (lane : ℕ) (seen : LaneState) (word : ℕ) → slice_get w.lanes lane ≡ Some seen → word < length seen.values → slice_index seen.values word ≡ value_at lane word (marks_of w.trace)
 
 -- Every world that stands for any list of events has it.
 abbrev pub EachHasHeadline : {M : Type 0} → (M → Request → Outcome × M) → Type 0

@@ -1,5 +1,7 @@
--- A world: the words of its lane, its processor, its machine with the entries so far, and the trace. What it stands for.
-use Rattle.std.specs.Prelude.{◌≡◌, ◌≤◌, ◌<◌, ℕ, ◌+◌, ◌*◌, ◌^◌, List, [], length, slice_index, Bool, true, false}
+-- A world: the words and the processors of its lanes, its machine with the entries so far, and the trace. What it
+-- stands for.
+use Rattle.std.specs.Prelude.{◌≡◌, ◌≤◌, ◌<◌, ℕ, ◌+◌, ◌*◌, ◌^◌, List, [], length, slice_index, slice_get, sum_by, Some, Bool, true, false}
+use Rattle.std.specs.Option.{option_map_or}
 use Rattle.mm_base.specs.Numbers.{bytes_of_words}
 use Rattle.mm_base.specs.Prepared.{Readied}
 use Rattle.mm_base.specs.Receipt.{told}
@@ -19,12 +21,16 @@ use Rattle.comm_core.specs.declared.processor.Stage.{Stage}
 use Rattle.comm_core.specs.declared.processor.Stage.TheVariants.{Resting, Rung, Loading, Turning, Storing}
 use Rattle.comm_core.specs.declared.trace.Trace.{Trace}
 
--- What contracts see of a world of one lane: how many data words the lane has and the values of all its words, the
--- stage of its processor, its machine, its entries in recorded order, and its trace.
+-- What contracts see of one lane: the values of all its words (the length, the status, and then the data), and its processor.
+pub record LaneState : Type 0 where
+  pub values : List ℕ
+  pub processor : ProcessorState
+
+-- What contracts see of a world: how many data words each of its lanes has, its lanes, its machine, its entries in recorded
+-- order, and its trace.
 pub record WorldState (M : Type 0) : Type 0 where
   pub words : ℕ
-  pub lane : List ℕ
-  pub stage : Stage
+  pub lanes : List LaneState
   pub machine : M
   pub entries : List Entry
   pub trace : List Trace
@@ -58,15 +64,20 @@ Follows place last (Loading prepared saved len loaded) = IsLoading place last pr
 Follows place last (Turning bytes) = ⊥
 Follows place last (Storing receipt stored) = IsStoring place receipt stored
 
--- A world stands at a past: its trace is the records of that past; its lane words have the values of the last stores and
--- pokes; its entries are the captured requests, each with its outcome in their replay from this machine value; its machine
--- is what that replay leaves; and its processor follows the lane's place, with the saved registers of the ring under way.
-pub record StandsAt {M : Type 0} (step : M → Request → Outcome × M) (machine : M) (past : List Mark) (w : WorldState M) : Type 0 where
+-- A lane of a world stands at a past: its words have the values of the last stores and pokes to them, and its processor
+-- follows the lane's place, with the saved registers of the ring under way.
+pub record LaneStands (words : ℕ) (outcomes : List Outcome) (lane : ℕ) (past : List Mark) (seen : LaneState) : Type 0 where
   pub place : Place
-  pub stands : StandsIn w.words (outcomes_of step machine past) 0 past place
-  pub stage : Follows place (last_saved 0 past) w.stage
+  pub stands : StandsIn words outcomes lane past place
+  pub stage : Follows place (last_saved lane past) seen.processor.stage
+  pub values : (word : ℕ) → word < length seen.values → slice_index seen.values word ≡ value_at lane word past
+
+-- A world stands at a past: its trace is the records of that past; its entries are the captured requests, each with its
+-- outcome in their replay from this machine value; its machine is what that replay leaves; and each of its lanes stands
+-- at that past.
+pub record StandsAt {M : Type 0} (step : M → Request → Outcome × M) (machine : M) (past : List Mark) (w : WorldState M) : Type 0 where
+  pub each : (lane : ℕ) (seen : LaneState) → slice_get w.lanes lane ≡ Some seen → LaneStands w.words (outcomes_of step machine past) lane past seen
   pub trace : w.trace ≡ trace_of past
-  pub lane : (word : ℕ) → word < length w.lane → slice_index w.lane word ≡ value_at 0 word past
   pub entries : w.entries ≡ replayed step machine (requests past)
   pub now : w.machine ≡ left_by step machine (requests past)
 
@@ -82,9 +93,9 @@ turns_to_come (Loading prepared saved len loaded) = 1
 turns_to_come (Turning bytes) = 1
 turns_to_come (Storing receipt stored) = 0
 
--- how many entries there are, with the one that a ring under way will make
+-- how many entries there are, with those that rings under way will make
 abbrev pub entries_asked : {M : Type 0} → WorldState M → ℕ
-entries_asked w = length w.entries + turns_to_come w.stage
+entries_asked w = length w.entries + sum_by (λ seen. turns_to_come seen.processor.stage) w.lanes
 
 -- how many rings an event is
 abbrev pub rings_in : Event → ℕ
@@ -106,27 +117,36 @@ HasRoom words calls (Loading prepared saved len loaded) = IsRoomy words calls pr
 HasRoom words calls (Turning bytes) = ⊥
 HasRoom words calls (Storing receipt stored) = Unit {0}
 
+-- a lane is ready: its processor is that of this lane, its words are all there, and a ring under way has its memory
+pub record IsLaneReady (words calls lane : ℕ) (seen : LaneState) : Type 0 where
+  pub number : seen.processor.lane ≡ lane
+  pub words_are : seen.processor.words ≡ words
+  pub size : length seen.values ≡ words + 2
+  pub memory : HasRoom words calls seen.processor.stage
+
 -- A world is ready: nothing behind an accepted ring can want memory.
-pub record IsReady (words length_of_lane calls : ℕ) (processor : ProcessorState) (entries : ℕ) (trace : Roomy Trace) : Type 0 where
+pub record IsReady (words : ℕ) (lanes : List LaneState) (calls entries : ℕ) (trace : Roomy Trace) : Type 0 where
   pub low : 3 ≤ words
   pub high : words ≤ 512
-  pub lane : length_of_lane ≡ words + 2
-  pub processor_lane : processor.lane ≡ 0
-  pub processor_words : processor.words ≡ words
-  pub memory : HasRoom words calls processor.stage
-  pub records : length trace.items + to_come words processor.stage ≤ trace.room
-  pub turns_fit : entries + turns_to_come processor.stage ≤ 2 ^ 32
+  pub few : length lanes ≤ 16
+  pub each : (lane : ℕ) (seen : LaneState) → slice_get lanes lane ≡ Some seen → IsLaneReady words calls lane seen
+  pub records : length trace.items + sum_by (λ seen. to_come words seen.processor.stage) lanes ≤ trace.room
+  pub turns_fit : entries + sum_by (λ seen. turns_to_come seen.processor.stage) lanes ≤ 2 ^ 32 + 16
 
--- an event speaks of the one lane and of words that it has
-abbrev pub IsOfWorld : ℕ → Event → Type 0
-IsOfWorld words (Ring lane saved) = lane ≡ 0
-IsOfWorld words (Poke lane word value) = (lane ≡ 0) × (word < words + 2)
-IsOfWorld words (Steps lane count) = lane ≡ 0
-IsOfWorld words (Run lane) = lane ≡ 0
+-- an event speaks of a lane that is there, of so many lanes, and of words that it has
+abbrev pub IsOfWorld : ℕ → ℕ → Event → Type 0
+IsOfWorld lanes words (Ring lane saved) = lane < lanes
+IsOfWorld lanes words (Poke lane word value) = (lane < lanes) × (word < words + 2)
+IsOfWorld lanes words (Steps lane count) = lane < lanes
+IsOfWorld lanes words (Run lane) = lane < lanes
+
+-- whether the processor of this lane rests
+abbrev pub is_resting_at : ℕ → List LaneState → Bool
+is_resting_at lane lanes = option_map_or (λ seen. is_resting seen.processor.stage) (slice_get lanes lane) true
 
 -- whether an event takes memory: a poke, and a ring at rest
-abbrev pub takes_memory : Stage → Event → Bool
-takes_memory stage (Ring lane saved) = is_resting stage
-takes_memory stage (Poke lane word value) = true
-takes_memory stage (Steps lane count) = false
-takes_memory stage (Run lane) = false
+abbrev pub takes_memory : List LaneState → Event → Bool
+takes_memory lanes (Ring lane saved) = is_resting_at lane lanes
+takes_memory lanes (Poke lane word value) = true
+takes_memory lanes (Steps lane count) = false
+takes_memory lanes (Run lane) = false

@@ -4,6 +4,7 @@
 mod action;
 mod answer;
 mod event;
+mod lane;
 pub mod laws;
 mod processor;
 mod script;

@@ -96,7 +96,8 @@ impl Processor {
 
     /// How many records its ring may still make.
     pub fn records_to_come(&self) -> u32
-        ensures { result ≡ to_come self.now.words self.now.stage }
+        ensures value { result ≡ to_come self.now.words self.now.stage }
+        ensures within { result ≤ 1028 }
     {
         let words = self.words;
         match &self.stage {

@@ -64,20 +64,20 @@ fn shape_of(len: usize) -> Shape
     }
 }
 
-/// Whether an event is of a world of so many data words.
-fn is_there(words: u32, event: &Event) -> bool
+/// Whether an event is of a world of so many lanes of so many data words.
+fn is_there(lanes: u32, words: u32, event: &Event) -> bool
     requires { words ≤ 512 }
-    ensures { result ≡ true → IsOfWorld words event.now }
+    ensures { result ≡ true → IsOfWorld lanes words event.now }
 {
     match *event {
-        Event::Ring { lane, saved: _ } => lane == 0,
+        Event::Ring { lane, saved: _ } => lane < lanes,
         Event::Poke {
             lane,
             word,
             value: _,
-        } => lane == 0 && word < words + 2,
-        Event::Steps { lane, count: _ } => lane == 0,
-        Event::Run { lane } => lane == 0,
+        } => lane < lanes && word < words + 2,
+        Event::Steps { lane, count: _ } => lane < lanes,
+        Event::Run { lane } => lane < lanes,
     }
 }
 
@@ -85,16 +85,20 @@ fn is_there(words: u32, event: &Event) -> bool
 fn world_behind(
     rt: &impl Abort,
     alloc: Global,
+    lanes: u32,
     words: u32,
     events: &[Event],
 ) -> Result<World<Clipper>, NoMemory>
+    requires some { 1 ≤ lanes }
+    requires few { lanes ≤ 16 }
     requires low { 3 ≤ words }
     requires high { words ≤ 512 }
-    ensures { IfOk result (λ world. world.words ≡ words) }
+    ensures words { IfOk result (λ world. world.words ≡ words) }
+    ensures lanes { IfOk result (λ world. length world.lanes ≡ lanes) }
 {
-    let mut world = World::new(alloc, Clipper, 1, words)?;
+    let mut world = World::new(alloc, Clipper, lanes, words)?;
     for event in events {
-        assert!(rt; is_there(words, event));
+        assert!(rt; is_there(lanes, words, event));
         assert!(rt; world.entries().len() < 1 << 32);
         world.event(event)?;
     }
@@ -188,7 +192,8 @@ fn are_records(trace: &[Trace]) -> bool {
 }
 
 fn word_is(world: &World<Clipper>, word: u32, value: u64) -> bool
-    requires { word < world.now.words + 2 }
+    requires lane { 0 < length world.now.lanes }
+    requires word { word < world.now.words + 2 }
 {
     world.word(0, word) == value
 }
@@ -207,14 +212,16 @@ fn has_first(world: &World<Clipper>) -> bool {
 
 /// The world behind the hostile events.
 fn hostile_world(rt: &impl Abort, alloc: Global) -> Result<World<Clipper>, NoMemory>
-    ensures { IfOk result (λ world. world.words ≡ 3) }
+    ensures words { IfOk result (λ world. world.words ≡ 3) }
+    ensures lanes { IfOk result (λ world. length world.lanes ≡ 1) }
 {
     let events = hostile(alloc)?;
-    world_behind(rt, alloc, 3, events.as_slice())
+    world_behind(rt, alloc, 1, 3, events.as_slice())
 }
 
 fn try_hostile(rt: &impl Abort, world: &World<Clipper>)
-    requires { world.now.words ≡ 3 }
+    requires words { world.now.words ≡ 3 }
+    requires lanes { length world.now.lanes ≡ 1 }
 {
     assert!(rt; are_records(world.trace()));
     assert!(rt; word_is(world, 0, 23));
@@ -230,6 +237,146 @@ fn try_hostile(rt: &impl Abort, world: &World<Clipper>)
 fn captures_what_it_loaded(rt: HostRuntime) -> Result<(), Fail> {
     let world = hostile_world(&rt, rt.alloc())?;
     try_hostile(&rt, &world);
+    Ok(())
+}
+
+fn poke(lane: u32, word: u32, value: u64) -> Event {
+    Event::Poke { lane, word, value }
+}
+
+fn steps(lane: u32, count: u32) -> Event {
+    Event::Steps { lane, count }
+}
+
+// The processors of two lanes take turns, and words of each lane are rewritten while the other one's request is captured:
+// those that were loaded before change nothing, and those that are still to be loaded do. Lane 1 has its turn first.
+fn interleaved(alloc: Global) -> Result<List<Event>, NoMemory> {
+    let events = [
+        poke(0, 2, ONE),
+        poke(0, 3, TWO),
+        poke(0, 4, THREE),
+        poke(0, 0, 24),
+        poke(1, 2, THREE),
+        poke(1, 3, ONE),
+        poke(1, 4, TWO),
+        poke(1, 0, 24),
+        Event::Ring {
+            lane: 0,
+            saved: FIRST,
+        },
+        Event::Ring {
+            lane: 1,
+            saved: SECOND,
+        },
+        steps(0, 2),
+        poke(1, 3, u64::MAX),
+        steps(1, 1),
+        poke(0, 2, u64::MAX),
+        poke(0, 4, ONE),
+        steps(1, 3),
+        poke(1, 2, 5),
+        steps(1, 1),
+        steps(0, 3),
+        steps(0, 1),
+        steps(1, 2),
+        poke(1, 3, 7),
+        Event::Run { lane: 0 },
+        Event::Run { lane: 1 },
+    ];
+    List::from_slice(alloc, &events)
+}
+
+// Lane 1's request is THREE, MAX and TWO, and lane 0's is ONE, TWO and ONE. Each reply lacks the last byte.
+fn interleaved_records() -> [Trace; 33] {
+    [
+        Trace::Poked(0, 2, ONE),
+        Trace::Poked(0, 3, TWO),
+        Trace::Poked(0, 4, THREE),
+        Trace::Poked(0, 0, 24),
+        Trace::Poked(1, 2, THREE),
+        Trace::Poked(1, 3, ONE),
+        Trace::Poked(1, 4, TWO),
+        Trace::Poked(1, 0, 24),
+        Trace::Loaded(0, 0, 24),
+        Trace::Loaded(0, 2, ONE),
+        Trace::Poked(1, 3, u64::MAX),
+        Trace::Loaded(1, 0, 24),
+        Trace::Poked(0, 2, u64::MAX),
+        Trace::Poked(0, 4, ONE),
+        Trace::Loaded(1, 2, THREE),
+        Trace::Loaded(1, 3, u64::MAX),
+        Trace::Loaded(1, 4, TWO),
+        Trace::Poked(1, 2, 5),
+        Trace::Turned(1, 0),
+        Trace::Loaded(0, 3, TWO),
+        Trace::Loaded(0, 4, ONE),
+        Trace::Turned(0, 1),
+        Trace::Stored(0, 2, ONE),
+        Trace::Stored(1, 2, THREE),
+        Trace::Stored(1, 3, u64::MAX),
+        Trace::Poked(1, 3, 7),
+        Trace::Stored(0, 3, TWO),
+        Trace::Stored(0, 4, 0x0007_0605_0403_0201),
+        Trace::Stored(0, 0, 23),
+        Trace::Stored(0, 1, 24),
+        Trace::Stored(1, 4, 0x000f_0e0d_0c0b_0a09),
+        Trace::Stored(1, 0, 23),
+        Trace::Stored(1, 1, 24),
+    ]
+}
+
+fn are_interleaved(trace: &[Trace]) -> bool {
+    trace == interleaved_records().as_slice()
+}
+
+/// Whether a lane has these words.
+fn lane_is(world: &World<Clipper>, lane: u32, values: &[u64]) -> bool
+    requires { lane < length world.now.lanes }
+{
+    world.lane(lane) == values
+}
+
+/// Whether the entry at this place is of this lane, and has these registers and 24 bytes, those from 8 on this word.
+fn entry_is(world: &World<Clipper>, place: u64, lane: u32, saved: Saved, second: u64) -> bool {
+    match world.entries().get(place) {
+        Some(entry) => is_asked(entry, lane, saved, second),
+        None => false,
+    }
+}
+
+fn is_asked(entry: &Entry, lane: u32, saved: Saved, second: u64) -> bool {
+    let bytes = entry.request.bytes.as_slice();
+    entry.request.lane == lane
+        && entry.request.length == 24
+        && entry.request.saved == saved
+        && bytes.len() == 24
+        && &bytes[8..16] == second.to_le_bytes().as_slice()
+}
+
+/// The world of two lanes behind the interleaved events.
+fn interleaved_world(rt: &impl Abort, alloc: Global) -> Result<World<Clipper>, NoMemory>
+    ensures { IfOk result (λ world. length world.lanes ≡ 2) }
+{
+    let events = interleaved(alloc)?;
+    world_behind(rt, alloc, 2, 3, events.as_slice())
+}
+
+fn try_interleaved(rt: &impl Abort, world: &World<Clipper>)
+    requires { length world.now.lanes ≡ 2 }
+{
+    assert!(rt; are_interleaved(world.trace()));
+    assert!(rt; lane_is(world, 0, &[23, 24, ONE, TWO, 0x0007_0605_0403_0201]));
+    assert!(rt; lane_is(world, 1, &[23, 24, THREE, 7, 0x000f_0e0d_0c0b_0a09]));
+    assert!(rt; world.lanes() == 2);
+    assert!(rt; world.entries().len() == 2);
+    assert!(rt; entry_is(world, 0, 1, SECOND, u64::MAX));
+    assert!(rt; entry_is(world, 1, 0, FIRST, TWO));
+}
+
+#[test]
+fn lanes_take_turns(rt: HostRuntime) -> Result<(), Fail> {
+    let world = interleaved_world(&rt, rt.alloc())?;
+    try_interleaved(&rt, &world);
     Ok(())
 }
 
@@ -274,7 +421,7 @@ fn loads_and_entries(rt: &impl Abort, alloc: Global, length: u64) -> Result<(u32
         },
         Event::Run { lane: 0 },
     ];
-    let world = world_behind(rt, alloc, 4, &events)?;
+    let world = world_behind(rt, alloc, 1, 4, &events)?;
     Ok((count_loads(world.trace()), world.entries().len()))
 }
 

@@ -20,6 +20,7 @@ pub mod status;
 #[cfg(test)]
 mod tests;
 mod text;
+mod volume;
 
 pub use access::{Denial, Kind, Right, Why};
 pub use cells::{
@@ -38,3 +39,4 @@ pub use prepared::{MOST_BYTES, OutcomeRooms, Prepared};
 pub use receipt::Receipt;
 pub use room::Room;
 pub use text::TextKind;
+pub use volume::{File, Section, SectionFault, Volume, VolumeKind};

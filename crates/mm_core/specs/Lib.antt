@@ -1,7 +1,11 @@
+pub mod Buffered
 pub mod CommunicateHeader
 pub mod CoreState
+pub mod EntryLaws
 pub mod EntryStep
 pub mod HandlerChain
 pub mod Invoked
 pub mod Laws
+pub mod ManagedChain
 pub mod Scripted
+pub mod StepParts

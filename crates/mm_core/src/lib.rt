@@ -1,7 +1,18 @@
 //! The core: it answers captured requests by its registered handlers.
 #![tactic(auto)]
 
+mod buffer;
+mod chain;
+mod entry_step;
 mod header;
+mod invoke;
+pub mod laws;
+mod machine_core;
+mod script_core;
+#[cfg(test)]
+mod tests;
 mod version;
 
+pub use machine_core::Core;
+pub use script_core::scripted;
 pub use version::{VERSION_GUID, VERSION_NUMBER};

@@ -1,5 +1,11 @@
 //! The version handler: it answers the version of the core.
-use mm_base::Guid;
+ghost use Rattle.std.specs.Prelude.{◌≡◌};
+ghost use Rattle.mm_base.specs.declared.handler.HandlerBody.TheVariants.{Version};
+ghost use Rattle.mm_core.specs.Invoked.{answer_of};
+
+use crate::buffer::Buffer;
+use mm_base::status::{INVALID_PARAMETER, SUCCESS};
+use mm_base::{Guid, WORD_BYTES};
 
 /// The GUID of the version handler, 4d4d5631-0001-4000-8000-000000000001, as it is stored.
 pub const VERSION_GUID: Guid = Guid([
@@ -8,3 +14,15 @@ pub const VERSION_GUID: Guid = Guid([
 
 /// What the version handler answers: PI 1.8, in the form of a revision word.
 pub const VERSION_NUMBER: u64 = 0x1_0008;
+
+/// Answers the version into the message, where there is place for it, and returns the status.
+pub fn answer_version(buffer: &mut Buffer) -> u64
+    ensures status { result ≡ (answer_of Version buffer.old.message).status }
+    ensures message { buffer.new ≡ record buffer.old { message = (answer_of Version buffer.old.message).message } }
+{
+    if buffer.message_bytes() < WORD_BYTES {
+        return INVALID_PARAMETER;
+    }
+    buffer.answer(&VERSION_NUMBER.to_le_bytes());
+    SUCCESS
+}

@@ -1,4 +1,5 @@
 //! What the program says on standard error where a run did not end well.
+use mm_base::TextKind;
 use mm_run::{MOST_SCRIPT_BYTES, Status, Which};
 use thiserror::Error;
 
@@ -7,8 +8,12 @@ use thiserror::Error;
 pub enum Fault<'a> {
     #[error("usage: mm_main script FILE")]
     Usage,
-    #[error("{name:?} is no script of the plain form: a line `lanes 1 W`, then lines `fill 0 HEX`, `poke 0 I V`, `ring 0`, `step 0`, `step 0 N` or `run 0`, each ended by a line feed, with single spaces; W from 3 to 512, 1 to 8*W bytes a fill, I below W + 2, V of 1 to 16 hexadecimal digits, N from 1 to 2048, at most 8192 rings")]
-    BadText { name: &'a str },
+    #[error("{name:?}, line {line}: {why}")]
+    BadText {
+        name: &'a str,
+        line: u32,
+        why: &'static str,
+    },
     #[error("{name:?} could not be opened or read")]
     Read { name: &'a str },
     #[error("standard output could not be written")]
@@ -25,7 +30,11 @@ impl<'a> Fault<'a> {
         match status {
             Status::Done => None,
             Status::Usage => Some(Fault::Usage),
-            Status::BadText { .. } => Some(Fault::BadText { name: first }),
+            Status::BadText { line, kind } => Some(Fault::BadText {
+                name: first,
+                line,
+                why: why(kind),
+            }),
             Status::ReadFault(which) => Some(Fault::Read {
                 name: name_of(which, first, second),
             }),
@@ -35,6 +44,22 @@ impl<'a> Fault<'a> {
             }),
             Status::NoMemory => Some(Fault::NoMemory),
         }
+    }
+}
+
+/// Why a line of a script is refused.
+fn why(kind: TextKind) -> &'static str {
+    match kind {
+        TextKind::Unknown => {
+            "its first word begins no line: a line is lanes, cell, handler, poke, fill, ring, step or run"
+        }
+        TextKind::Order => {
+            "it may not stand here: lanes stands first and once, cell and handler before all that happens"
+        }
+        TextKind::Words => "it has too many or too few words, or one that such a line doesn't know",
+        TextKind::Number => "one of its words can't be read as the number, bytes or GUID that stand there",
+        TextKind::Range => "a number is out of its range, or names what isn't there",
+        TextKind::Missing => "the script has no line that says anything",
     }
 }
 

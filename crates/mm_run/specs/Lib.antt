@@ -1,10 +1,2 @@
-pub mod Adds
-pub mod CommunicateHeader
-pub mod EntryLaws
-pub mod EntryStep
-pub mod HandlerChain
-pub mod Plain
-pub mod Reader
-pub mod Report
 pub mod Run
 pub mod Status

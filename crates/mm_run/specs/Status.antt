@@ -2,9 +2,8 @@
 use Rattle.std.specs.Prelude.{ℕ}
 use Rattle.mm_io.specs.declared.reading.ReadEnd.{ReadEnd}
 use Rattle.mm_io.specs.declared.reading.ReadEnd.TheVariants as read_end
-use Rattle.mm_base.specs.declared.text.TextKind.TheVariants.{Unbuilt}
-use Rattle.mm_run.specs.declared.plain.PlainEnd.{PlainEnd}
-use Rattle.mm_run.specs.declared.plain.PlainEnd.TheVariants as plain_end
+use Rattle.mm_text.specs.declared.text_end.TextEnd.{TextEnd}
+use Rattle.mm_text.specs.declared.text_end.TextEnd.TheVariants as text_end
 use Rattle.mm_run.specs.declared.status.Status.{Status}
 use Rattle.mm_run.specs.declared.status.Status.TheVariants.{Done, Usage, BadText, ReadFault, WriteFault, TooLong, NoMemory}
 use Rattle.mm_run.specs.declared.status.Which.{Which}
@@ -25,7 +24,7 @@ status_of_read read_end.Failed which = ReadFault which
 status_of_read read_end.TooLong which = TooLong which
 status_of_read read_end.NoMemory which = NoMemory
 
--- the status of a text that was not read as a script
-abbrev pub status_of_plain : PlainEnd → Status
-status_of_plain plain_end.Unbuilt = BadText 0 Unbuilt
-status_of_plain plain_end.NoMemory = NoMemory
+-- the status of a text that was not read
+abbrev pub status_of_text : TextEnd → Status
+status_of_text (text_end.Fault fault) = BadText fault.line fault.kind
+status_of_text text_end.NoMemory = NoMemory

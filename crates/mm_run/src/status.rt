@@ -2,9 +2,9 @@
 ghost use Rattle.std.specs.Prelude.{◌≡◌};
 ghost use Rattle.mm_run.specs.Status.{number_of_status, status_of_read};
 
-use crate::plain::PlainEnd;
 use mm_base::{NoMemory, TextKind};
 use mm_io::ReadEnd;
+use mm_text::TextEnd;
 
 /// The two sources that a form may name.
 #[derive(Clone, Copy, Debug, PartialEq, Eq)]
@@ -20,7 +20,7 @@ pub enum Status {
     Done,
     /// The words are no form that the program serves.
     Usage,
-    /// The text of a source is refused at this line.
+    /// The text of a source is refused at this line, counted from 1.
     BadText { line: u32, kind: TextKind },
     /// A source could not be read.
     ReadFault(Which),
@@ -70,18 +70,18 @@ impl From<NoMemory> for Status {
     }
 }
 
-impl From<PlainEnd> for Status {
-    ghost use Rattle.mm_run.specs.Status.{status_of_plain};
+impl From<TextEnd> for Status {
+    ghost use Rattle.mm_run.specs.Status.{status_of_text};
 
-    ghost from_gives = { λ end status. status ≡ status_of_plain end };
+    ghost from_gives = { λ end status. status ≡ status_of_text end };
 
-    fn from(end: PlainEnd) -> Self {
+    fn from(end: TextEnd) -> Self {
         match end {
-            PlainEnd::Unbuilt => Status::BadText {
-                line: 0,
-                kind: TextKind::Unbuilt,
+            TextEnd::Fault(fault) => Status::BadText {
+                line: fault.line,
+                kind: fault.kind,
             },
-            PlainEnd::NoMemory => Status::NoMemory,
+            TextEnd::NoMemory => Status::NoMemory,
         }
     }
 }

@@ -2,17 +2,22 @@
 ghost use Rattle.std.specs.Prelude.{◌≡◌, ◌≤◌, ◌↔◌, ◌⊎◌, Some, List, true, false, None, IfOk, IfErr, OnOk, length};
 ghost use Rattle.mm_io.specs.Causes.{Rose};
 ghost use Rattle.mm_io.specs.Streams.{Appends, AppendsFront, GivesAll, GivesAtMost, GivesMoreThan};
-ghost use Rattle.mm_run.specs.Run.{is_script as is_script_form, most_bytes, report_for, HasRead, HasHeadline, HoldsScript, Refuses, RefusesText, IsMade, IsDriven, writes, has_no_world};
-ghost use Rattle.mm_run.specs.Plain.{IsPlain, IsInRange, events_in};
-ghost use Rattle.mm_run.specs.EntryStep.{entry_step, scripted as scripted_core};
+ghost use Rattle.mm_run.specs.Run.{is_script as is_script_form, most_bytes, core_of, report_for, HasRead, HasHeadline, HoldsScript, HoldsFault, Refuses, RefusesText, IsMade, IsDriven, writes, has_no_world};
+ghost use Rattle.mm_core.specs.EntryStep.{core_step};
+ghost use Rattle.mm_text.specs.Limits.{IsWithinLimits};
+ghost use Rattle.mm_text.specs.ScriptText.{IsScript};
+ghost use Rattle.mm_text.specs.declared.text_end.TextFault.{TextFault};
+ghost use Rattle.comm_core.specs.declared.script.Script.{Script};
 ghost use Rattle.comm_core.specs.World.{StandsFor};
 
 use crate::drive::drive;
+use crate::lanes::words_of_lanes;
 use crate::status::{Status, Which};
-use crate::{Core, Plain, events, read_plain, report, scripted};
-use comm_core::World;
-use mm_base::{Bytes, List, NoMemory, Opening};
+use comm_core::{Script, World};
+use mm_base::{Bytes, NoMemory};
+use mm_core::{Core, scripted};
 use mm_io::{Sink, Source, read_all, write_all};
+use mm_text::{Parts, read_script, report};
 use std::alloc::Global;
 
 /// The most bytes that a script may have.
@@ -50,12 +55,15 @@ pub fn run<V: Source, S: Source, K: Sink>(
     ensures write_fault { result.status ≡ Status.WriteFault → Rose (K.fault_count out.old) (K.fault_count out.new) }
 
     // What is written: the report, a front of it, or nothing.
-    ensures done { result.status ≡ Status.Done → (plain : Plain) × HasRead (V.left first.old) (V.left first.new) plain × Appends (K.written out.old) (K.written out.new) (report_for plain) }
-    ensures front { result.status ≡ Status.WriteFault → (plain : Plain) × HasRead (V.left first.old) (V.left first.new) plain × AppendsFront (K.written out.old) (K.written out.new) (report_for plain) }
+    ensures done { result.status ≡ Status.Done → (script : Script) × HasRead (V.left first.old) (V.left first.new) script × Appends (K.written out.old) (K.written out.new) (report_for script) }
+    ensures front { result.status ≡ Status.WriteFault → (script : Script) × HasRead (V.left first.old) (V.left first.new) script × AppendsFront (K.written out.old) (K.written out.new) (report_for script) }
     ensures nothing { writes result.status ≡ false → out.new ≡ out.old }
 
     // A script that can be read and written is served, want of memory aside.
     ensures complete { is_script_form words.now.items ≡ true → HoldsScript (V.left first.old) → (Rose (V.fault_count first.old) (V.fault_count first.new) → ⊥) → (Rose (K.fault_count out.old) (K.fault_count out.new) → ⊥) → (result.status ≡ Status.Done) ⊎ (result.status ≡ Status.NoMemory) }
+
+    // A text with a fault is refused at its first fault, want of memory aside.
+    ensures faulty { (fault : TextFault) → is_script_form words.now.items ≡ true → HoldsFault (V.left first.old) fault → (Rose (V.fault_count first.old) (V.fault_count first.new) → ⊥) → (result.status ≡ Status.BadText fault.line fault.kind) ⊎ (result.status ≡ Status.NoMemory) }
 
     // The headline, and with it the world that was driven. Whatever the script stores between any two steps, each entry
     // loads each word of its request exactly once, and the replies, statuses and records are the one-thread core's on the
@@ -103,8 +111,8 @@ fn make<V: Source>(alloc: Global, first: &mut V) -> Result<Made, Status>
     ensures err { IfErr result (Refuses (V.left first.old) (V.left first.new) (Rose (V.fault_count first.old) (V.fault_count first.new))) }
 {
     let bytes = read(alloc, first)?;
-    let plain = understood(alloc, bytes.as_slice())?;
-    Ok(driven(alloc, &plain)?)
+    let script = understood(alloc, bytes.as_slice())?;
+    Ok(driven(alloc, &script)?)
 }
 
 /// All bytes of the script.
@@ -119,36 +127,40 @@ fn read<V: Source>(alloc: Global, first: &mut V) -> Result<Bytes, Status>
 }
 
 /// What the script says.
-fn understood(alloc: Global, bytes: &[u8]) -> Result<Plain, Status>
-    ensures ok { IfOk result (IsPlain bytes.now) }
+fn understood(alloc: Global, bytes: &[u8]) -> Result<Script, Status>
+    requires { length bytes.now ≤ most_bytes }
+    ensures ok { IfOk result (IsScript true bytes.now) }
+    ensures within { IfOk result IsWithinLimits }
     ensures err { IfErr result (RefusesText bytes.now) }
 {
-    Ok(read_plain(alloc, bytes)?)
+    Ok(read_script(alloc, bytes, true)?)
 }
 
 /// The world that the script drives, and its report.
-fn driven(alloc: Global, plain: &Plain) -> Result<Made, NoMemory>
-    requires { IsInRange plain.now }
-    ensures { IfOk result (IsDriven plain.now) }
+fn driven(alloc: Global, script: &Script) -> Result<Made, NoMemory>
+    requires { IsWithinLimits script.now }
+    ensures { IfOk result (IsDriven script.now) }
 {
-    let world = driven_world(alloc, plain)?;
-    let text = report(alloc, world.entries(), world.lane(0))?;
+    let world = driven_world(alloc, script)?;
+    let lanes = words_of_lanes(alloc, &world)?;
+    let parts = Parts {
+        entries: Some(world.entries()),
+        lanes: Some(&lanes),
+    };
+    let text = report(alloc, &parts)?;
     Ok(Made { world, text })
 }
 
 /// The world that the script drives.
-fn driven_world(alloc: Global, plain: &Plain) -> Result<World<Core>, NoMemory>
-    requires { IsInRange plain.now }
-    ensures stands { IfOk result (StandsFor entry_step scripted_core (events_in plain.now)) }
-    ensures words { IfOk result (λ world. world.words ≡ plain.now.words) }
+fn driven_world(alloc: Global, script: &Script) -> Result<World<Core>, NoMemory>
+    requires { IsWithinLimits script.now }
+    ensures stands { IfOk result (StandsFor core_step (core_of script.now) script.now.events) }
+    ensures words { IfOk result (λ world. world.words ≡ script.now.words) }
+    ensures lanes { IfOk result (λ world. length world.lanes ≡ script.now.lanes) }
 {
-    let opening = Opening {
-        cells: List::new(alloc),
-    };
-    let core = scripted(alloc, &opening, &List::new(alloc))?;
-    let events = events(alloc, plain)?;
-    let mut world = World::new(alloc, core, 1, plain.words)?;
-    drive(&mut world, events.as_slice())?;
+    let core = scripted(alloc, &script.opening, &script.handlers)?;
+    let mut world = World::new(alloc, core, script.lanes, script.words)?;
+    drive(&mut world, script.events.as_slice())?;
     Ok(world)
 }
 

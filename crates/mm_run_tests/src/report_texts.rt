@@ -1,11 +1,12 @@
 //! Reports whose text was written by hand from the rules.
-ghost use Rattle.std.specs.Prelude.{◌≡◌, length, IfOk};
+ghost use Rattle.std.specs.Prelude.{◌≡◌, ◌≤◌, length, Some, IfOk};
+ghost use Rattle.mm_text.specs.Report.{HaveFrontWords};
 
 use mm_base::{
     CellWrite, Denial, Ended, Entries, FaultKind, Guid, Invocation, Kind, List, NoMemory, Outcome,
     Prepared, Right, Saved, Shape, Why,
 };
-use mm_run::report;
+use mm_text::{Parts, report};
 use std::alloc::Global;
 use std::test::Fail;
 
@@ -81,6 +82,16 @@ fn recorded(alloc: Global) -> Result<Invocation, NoMemory> {
     Ok(invocation)
 }
 
+/// One lane of these words.
+fn lane_of(alloc: Global, words: &[u64]) -> Result<List<List<u64>>, NoMemory>
+    requires { 2 ≤ length words.now }
+    ensures { IfOk result (λ lanes. HaveFrontWords (Some lanes)) }
+{
+    let mut lanes = List::new(alloc);
+    lanes.push(List::from_slice(alloc, words)?)?;
+    Ok(lanes)
+}
+
 #[test]
 fn records_and_registers(rt: HostRuntime) -> Result<(), Fail> {
     let alloc = rt.alloc();
@@ -106,10 +117,15 @@ fn records_and_registers(rt: HostRuntime) -> Result<(), Fail> {
         .root
         .push(ended(alloc, 2, Ended::Fault(FaultKind::Divide, 0x30)))?;
     entries.join(one(alloc, 25, &[], Saved::ZERO, second)?);
-    let text = report(alloc, &entries, &[25, 0x8000_0000_0000_000e])?;
+    let lanes = lane_of(alloc, &[25, 0x8000_0000_0000_000e])?;
+    let parts = Parts {
+        entries: Some(&entries),
+        lanes: Some(&lanes),
+    };
+    let text = report(alloc, &parts)?;
     assert_eq!(rt;
         text.as_slice(),
-        b"entry 0 lane 0 loads 1 status 8000000000000002
+        b"entry 0 lane 0 loads 4 status 8000000000000002
   request 0000000000000018 070707070707070707070707070707070707070707070707
   regs 0=00000000000000b2 18=00000000000200b2
   refused header

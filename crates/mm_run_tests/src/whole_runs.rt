@@ -1,78 +1,15 @@
 //! Whole runs over sources and sinks in memory. What is expected was worked out by hand from the definitions.
-use mm_base::{Bytes, List, NoMemory, TextKind};
-use mm_io::{FileSource, MemorySink, MemorySource};
+use crate::running::{many, refuses, reports, script_words, sink, source};
+use mm_base::{List, TextKind};
+use mm_io::FileSource;
 use mm_run::{Status, Which, run};
-use std::alloc::{AllocError, Global};
-use std::process::Abort;
 use std::test::Fail;
-
-/// How many bytes a sink of these tests takes.
-const ROOM: usize = 8_192;
 
 const VERSION_SCRIPT: &[u8] =
     b"lanes 1 4\nfill 0 31564d4d01000040800000000000000108000000000000000000000000000000\nring 0\nrun 0\n";
 
 const VERSION_REPORT: &[u8] =
     b"entry 0 lane 0 loads 5 status 0000000000000000\n  request 0000000000000020 31564d4d01000040800000000000000108000000000000000000000000000000\n  dispatched 4d4d5631-0001-4000-8000-000000000001\n  handler 0 returned 0000000000000000\n  reply 31564d4d01000040800000000000000108000000000000000800010000000000\nlane 0 length 0000000000000020 status 0000000000000000 data 31564d4d01000040800000000000000108000000000000000800010000000000\n";
-
-/// The words `script` and a file's name.
-fn script_words(alloc: Global) -> Result<Vec<String>, AllocError> {
-    let mut words = Vec::new(alloc);
-    words.push(String::from_str(alloc, "script")?)?;
-    words.push(String::from_str(alloc, "version.script")?)?;
-    Ok(words)
-}
-
-fn source(alloc: Global, script: &[u8], failing: &[u32]) -> Result<MemorySource, NoMemory> {
-    Ok(MemorySource::new(
-        List::from_slice(alloc, script)?,
-        100,
-        List::from_slice(alloc, failing)?,
-    ))
-}
-
-/// So many bytes. It has no clause, so that no proof computes the list.
-fn many(alloc: Global, count: usize) -> Result<Bytes, NoMemory> {
-    let bytes = vec![in alloc; b'#'; count]?;
-    Ok(List::from_vec(bytes))
-}
-
-/// A sink that takes so many bytes a call.
-fn sink(alloc: Global, most: u32, failing: &[u32]) -> Result<MemorySink, NoMemory> {
-    Ok(MemorySink::new(many(alloc, ROOM)?, most, List::from_slice(alloc, failing)?))
-}
-
-/// A run of this script answers 0 and writes this report.
-fn reports(rt: &impl Abort, alloc: Global, script: &[u8], report: &[u8]) -> Result<(), NoMemory> {
-    let words = script_words(alloc)?;
-    let mut first = source(alloc, script, &[])?;
-    let mut second = source(alloc, b"", &[])?;
-    let mut out = sink(alloc, 4_096, &[])?;
-    let end = run(alloc, &words, &mut first, &mut second, &mut out);
-    assert_eq!(rt; (end.status, end.world.is_some()), (Status::Done, true));
-    assert_eq!(rt; out.written(), report);
-    Ok(())
-}
-
-/// A run of this script ends so, and writes nothing.
-fn refuses(
-    rt: &impl Abort,
-    alloc: Global,
-    words: &Vec<String>,
-    script: &[u8],
-    failing: &[u32],
-    status: Status,
-) -> Result<(), NoMemory> {
-    let mut first = source(alloc, script, failing)?;
-    let mut second = source(alloc, b"", &[])?;
-    let mut out = sink(alloc, 4_096, &[])?;
-    let end = run(alloc, words, &mut first, &mut second, &mut out);
-    assert_eq!(rt;
-        (end.status, end.world.is_none(), out.written().len()),
-        (status, true, 0)
-    );
-    Ok(())
-}
 
 #[test]
 fn a_version_request(rt: HostRuntime) -> Result<(), Fail> {
@@ -307,11 +244,11 @@ fn faults_have_their_causes(rt: HostRuntime) -> Result<(), Fail> {
         &rt,
         alloc,
         &words,
-        b"lanes 1 4",
+        b"# a lane\nlanes 1 4\nring 1",
         &[],
         Status::BadText {
-            line: 0,
-            kind: TextKind::Unbuilt,
+            line: 3,
+            kind: TextKind::Range,
         },
     )?;
     refuses(
@@ -322,7 +259,7 @@ fn faults_have_their_causes(rt: HostRuntime) -> Result<(), Fail> {
         &[0],
         Status::ReadFault(Which::First),
     )?;
-    let long = many(alloc, 4_194_305)?;
+    let long = many(alloc, 4_194_305, b'#')?;
     refuses(
         &rt,
         alloc,
@@ -331,6 +268,16 @@ fn faults_have_their_causes(rt: HostRuntime) -> Result<(), Fail> {
         &[],
         Status::TooLong(Which::First),
     )?;
+    Ok(())
+}
+
+/// Lines that say nothing, up to the most bytes that a script may have.
+#[test]
+fn a_script_of_all_bytes(rt: HostRuntime) -> Result<(), Fail> {
+    let alloc = rt.alloc();
+    let mut script = many(alloc, 4_194_304 - VERSION_SCRIPT.len(), b'\n')?;
+    script.extend(VERSION_SCRIPT)?;
+    reports(&rt, alloc, script.as_slice(), VERSION_REPORT)?;
     Ok(())
 }
 

@@ -6,6 +6,7 @@ pub mod JudgeLemmas
 pub mod LimitLemmas
 pub mod LineLemmas
 pub mod NumberLemmas
+pub mod PageLemmas
 pub mod ReadLemmas
 pub mod ReaderLemmas
 pub mod RegisterLemmas

@@ -15,7 +15,8 @@ use Rattle.comm_core.specs.declared.event.Event.{Event}
 use Rattle.comm_core.specs.declared.event.Event.TheVariants as event
 use Rattle.comm_core.specs.declared.script.Script.{Script}
 use Rattle.mm_text.specs.Fields.{keyword_of}
-use Rattle.mm_text.specs.Limits.{IsOfLanes, IsWithinLimits}
+use Rattle.comm_core.specs.World.{IsOfWorld}
+use Rattle.mm_text.specs.Limits.{IsWithinLimits}
 use Rattle.mm_text.specs.ScriptText.{lines_of, said_in, is_event, has_none, may_stand, lanes_in, words_in, kind_of, place_of, is_handler, is_ring, are_distinct, is_in_range, Says, IsAccepted, pokes, saved_of, events_of, cells_of, stubs_of, script_of, IsScript}
 use Rattle.mm_text.proofs.BuilderLemmas.{lanes_in-push, words_in-push, flat_map-push, count_by-push, length-numbered}
 use Rattle.mm_text.proofs.SaysLemmas.{some-at, take-some}
@@ -44,7 +45,7 @@ record IsBounded (lines : List Line) : Type 0 where
   cells : All IsOpeningCell (flat_map cells_of lines)
   few : count_by handles lines ≤ 64
   rung : count_by rings lines ≤ 8192
-  events : All (IsOfLanes (lanes_in lines) (words_in lines)) (flat_map events_of lines)
+  events : All (IsOfWorld (lanes_in lines) (words_in lines)) (flat_map events_of lines)
 
 bounded-none : IsBounded []
 bounded-none = record {
@@ -52,7 +53,7 @@ bounded-none = record {
   cells = All-nil IsOpeningCell;
   few = omega arith;
   rung = omega arith;
-  events = All-nil (IsOfLanes 0 0);
+  events = All-nil (IsOfWorld 0 0);
 }
 
 sized_by : (lanes words : ℕ) → (nat_le 1 lanes && nat_le lanes 16 && nat_le 3 words && nat_le words 512) ≡ true → IsSized lanes words
@@ -75,22 +76,22 @@ bounded-lanes [] lanes words none inside = record {
   cells = All-nil IsOpeningCell;
   few = omega arith;
   rung = omega arith;
-  events = All-nil (IsOfLanes lanes words);
+  events = All-nil (IsOfWorld lanes words);
 }
 
 count-within : (p : Line → Bool) (lines : List Line) (line : Line) (most : ℕ) → count_by p lines + cond (p line) 1 0 ≤ most → count_by p (lines ++ line ∷ []) ≤ most
 count-within p lines line most h = subst (λ n. n ≤ most) (sym (count_by-push p lines line)) h
 
-events-within : (before : List Line) (line : Line) → has_none before ≡ false → All (IsOfLanes (lanes_in before) (words_in before)) (flat_map events_of before)
-    → All (IsOfLanes (lanes_in before) (words_in before)) (events_of line)
-    → All (IsOfLanes (lanes_in (before ++ line ∷ [])) (words_in (before ++ line ∷ []))) (flat_map events_of (before ++ line ∷ []))
+events-within : (before : List Line) (line : Line) → has_none before ≡ false → All (IsOfWorld (lanes_in before) (words_in before)) (flat_map events_of before)
+    → All (IsOfWorld (lanes_in before) (words_in before)) (events_of line)
+    → All (IsOfWorld (lanes_in (before ++ line ∷ [])) (words_in (before ++ line ∷ []))) (flat_map events_of (before ++ line ∷ []))
 events-within before line some old more =
-    let P : List Event → Type 0 = λ events. All (IsOfLanes (lanes_in before) (words_in before)) events in
-    let Q : ℕ → Type 0 = λ n. All (IsOfLanes n (words_in before)) (flat_map events_of (before ++ line ∷ [])) in
-    let R : ℕ → Type 0 = λ n. All (IsOfLanes (lanes_in (before ++ line ∷ [])) n) (flat_map events_of (before ++ line ∷ [])) in
+    let P : List Event → Type 0 = λ events. All (IsOfWorld (lanes_in before) (words_in before)) events in
+    let Q : ℕ → Type 0 = λ n. All (IsOfWorld n (words_in before)) (flat_map events_of (before ++ line ∷ [])) in
+    let R : ℕ → Type 0 = λ n. All (IsOfWorld (lanes_in (before ++ line ∷ [])) n) (flat_map events_of (before ++ line ∷ [])) in
     subst R (sym (words_in-push before line some))
     (subst Q (sym (lanes_in-push before line some))
-    (subst P (sym (flat_map-push events_of before line)) (All-append (IsOfLanes (lanes_in before) (words_in before)) (flat_map events_of before) (events_of line) old more)))
+    (subst P (sym (flat_map-push events_of before line)) (All-append (IsOfWorld (lanes_in before) (words_in before)) (flat_map events_of before) (events_of line) old more)))
 
 -- what a line behind the first adds
 record IsBounding (before : List Line) (line : Line) : Type 0 where
@@ -98,7 +99,7 @@ record IsBounding (before : List Line) (line : Line) : Type 0 where
   cells : All IsOpeningCell (cells_of line)
   few : count_by handles before + cond (handles line) 1 0 ≤ 64
   rung : count_by rings before + cond (rings line) 1 0 ≤ 8192
-  events : All (IsOfLanes (lanes_in before) (words_in before)) (events_of line)
+  events : All (IsOfWorld (lanes_in before) (words_in before)) (events_of line)
 
 bounded-later : (before : List Line) (line : Line) → IsBounded before → IsBounding before line → IsBounded (before ++ line ∷ [])
 bounded-later before line b m =
@@ -119,12 +120,12 @@ add_none n most h = omega arith
 one_more : (n most : ℕ) → nat_lt n most ≡ true → n + 1 ≤ most
 one_more n most h = let less = ltb-true n most h in omega arith
 
-one_event : (lanes words : ℕ) (e : Event) → IsOfLanes lanes words e → All (IsOfLanes lanes words) (e ∷ [])
-one_event lanes words e h = All-cons (IsOfLanes lanes words) e [] h (All-nil (IsOfLanes lanes words))
+one_event : (lanes words : ℕ) (e : Event) → IsOfWorld lanes words e → All (IsOfWorld lanes words) (e ∷ [])
+one_event lanes words e h = All-cons (IsOfWorld lanes words) e [] h (All-nil (IsOfWorld lanes words))
 
 -- a line that says one event which is no ring
 bounding-event : (before : List Line) (line : Line) → IsBounded before → has_none before ≡ false → handles line ≡ false → rings line ≡ false → cells_of line ≡ []
-    → All (IsOfLanes (lanes_in before) (words_in before)) (events_of line) → IsBounding before line
+    → All (IsOfWorld (lanes_in before) (words_in before)) (events_of line) → IsBounding before line
 bounding-event before line b some h r no_cells events =
     let P : Bool → Type 0 = λ t. count_by handles before + cond t 1 0 ≤ 64 in
     let Q : Bool → Type 0 = λ t. count_by rings before + cond t 1 0 ≤ 8192 in
@@ -141,18 +142,18 @@ length-first_words : (n : ℕ) (bytes : List ℕ) → length (first_words n byte
 length-first_words zero bytes = refl
 length-first_words (suc n) bytes = ap suc (length-first_words n _)
 
-pokes-within : (lanes words lane word : ℕ) (values : List ℕ) → lane < lanes → word + length values ≤ words + 2 → All (IsOfLanes lanes words) (pokes lane word values)
-pokes-within lanes words lane word [] there h = All-nil (IsOfLanes lanes words)
+pokes-within : (lanes words lane word : ℕ) (values : List ℕ) → lane < lanes → word + length values ≤ words + 2 → All (IsOfWorld lanes words) (pokes lane word values)
+pokes-within lanes words lane word [] there h = All-nil (IsOfWorld lanes words)
 pokes-within lanes words lane word (value ∷ values) there h =
     let here : word < words + 2 = omega arith in
     let rest : (word + 1) + length values ≤ words + 2 = omega arith in
-    All-cons (IsOfLanes lanes words) (event.Poke lane word value) (pokes lane (word + 1) values) (there, here) (pokes-within lanes words lane (word + 1) values there rest)
+    All-cons (IsOfWorld lanes words) (event.Poke lane word value) (pokes lane (word + 1) values) (there, here) (pokes-within lanes words lane (word + 1) values there rest)
 
-fill-within : (lanes words lane : ℕ) (bytes : List ℕ) → lane < lanes → length bytes ≤ 8 * words → All (IsOfLanes lanes words) (events_of (Fill lane bytes))
+fill-within : (lanes words lane : ℕ) (bytes : List ℕ) → lane < lanes → length bytes ≤ 8 * words → All (IsOfWorld lanes words) (events_of (Fill lane bytes))
 fill-within lanes words lane bytes there h =
     let none : 0 < words + 2 = omega arith in
     let few : 2 + length (words_of_bytes bytes) ≤ words + 2 = omega (arith, length-first_words (words_for (length bytes)) bytes) in
-    All-append (IsOfLanes lanes words) (pokes lane 2 (words_of_bytes bytes)) (event.Poke lane 0 (length bytes) ∷ [])
+    All-append (IsOfWorld lanes words) (pokes lane 2 (words_of_bytes bytes)) (event.Poke lane 0 (length bytes) ∷ [])
     (pokes-within lanes words lane 2 (words_of_bytes bytes) there few)
     (one_event lanes words (event.Poke lane 0 (length bytes)) (there, none))
 
@@ -195,7 +196,7 @@ bounding-cell before kind at value b some inside = record {
   cells = All-cons IsOpeningCell (record { kind = kind_of kind; at = place_of kind at; n = 1; value = value }) [] (record { one = refl; there = inside }) (All-nil IsOpeningCell);
   few = add_none (count_by handles before) 64 b.few;
   rung = add_none (count_by rings before) 8192 b.rung;
-  events = All-nil (IsOfLanes (lanes_in before) (words_in before));
+  events = All-nil (IsOfWorld (lanes_in before) (words_in before));
 }
 
 -- the first line stands in front of those that ask for one
@@ -215,7 +216,7 @@ bounded-more before (Handler guid status) b may inside =
       cells = All-nil IsOpeningCell;
       few = one_more (count_by handles before) 64 inside;
       rung = add_none (count_by rings before) 8192 b.rung;
-      events = All-nil (IsOfLanes (lanes_in before) (words_in before));
+      events = All-nil (IsOfWorld (lanes_in before) (words_in before));
     })
 bounded-more before (Poke lane word value) b may inside =
     bounded-later before (Poke lane word value) b (bounding-poke before lane word value b (not-true (has_none before) may) inside)

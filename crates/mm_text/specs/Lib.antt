@@ -1,7 +1,9 @@
+pub mod Adds
 pub mod Fields
 pub mod Limits
 pub mod LineReader
 pub mod Refusal
+pub mod Report
 pub mod ScriptReader
 pub mod ScriptText
 pub mod TextLaws

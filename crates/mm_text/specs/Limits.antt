@@ -1,19 +1,10 @@
 -- Within which limits a script is that was read from a text.
-use Rattle.std.specs.Prelude.{ℕ, ◌+◌, ◌<◌, ◌≤◌, length}
+use Rattle.std.specs.Prelude.{◌≤◌, length}
 use Rattle.std.specs.List.{All, sum_by}
 use Rattle.mm_base.specs.Cells.{IsOpening}
 use Rattle.mm_core.specs.Scripted.{AreStubs}
-use Rattle.comm_core.specs.World.{rings_in}
-use Rattle.comm_core.specs.declared.event.Event.{Event}
-use Rattle.comm_core.specs.declared.event.Event.TheVariants.{Ring, Poke, Steps, Run}
+use Rattle.comm_core.specs.World.{IsOfWorld, rings_in}
 use Rattle.comm_core.specs.declared.script.Script.{Script}
-
--- an event speaks of a lane that is there, and of words that it has
-abbrev pub IsOfLanes : ℕ → ℕ → Event → Type 0
-IsOfLanes lanes words (Ring lane saved) = lane < lanes
-IsOfLanes lanes words (Poke lane word value) = (lane < lanes) × (word < words + 2)
-IsOfLanes lanes words (Steps lane count) = lane < lanes
-IsOfLanes lanes words (Run lane) = lane < lanes
 
 -- 1 to 16 lanes of 3 to 512 data words; cells that the platform has, with values that they may hold; at most 64 handlers, each
 -- a stub; at most 8,192 rings; and events of lanes and words that are there
@@ -26,4 +17,4 @@ pub record IsWithinLimits (script : Script) : Type 0 where
   pub few : length script.handlers ≤ 64
   pub stubs : AreStubs script.handlers
   pub rings : sum_by rings_in script.events ≤ 8192
-  pub events : All (IsOfLanes script.lanes script.words) script.events
+  pub events : All (IsOfWorld script.lanes script.words) script.events

@@ -29,6 +29,13 @@ fn names_what_was_refused(rt: HostRuntime) -> Result<(), Fail> {
             Status::TooLong(Which::First),
             "\"one\" has more than 4194304 bytes",
         ),
+        (
+            Status::BadText {
+                line: 7,
+                kind: TextKind::Range,
+            },
+            "\"one\", line 7: a number is out of its range, or names what isn't there",
+        ),
         (Status::WriteFault, "standard output could not be written"),
         (Status::NoMemory, "memory was refused"),
     ];

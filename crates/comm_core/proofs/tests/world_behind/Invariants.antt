@@ -1,6 +1,6 @@
-use Rattle.std.proofs.Common.{◌≡◌}
+use Rattle.std.proofs.Common.{◌≡◌, length}
 use Rattle.comm_core.proofs.tests.world_behind.Given as goal
 
--- the world keeps its data words
+-- the world keeps its lanes and their data words
 abbrev pub invariant-loop-event : goal.invariant-loop-event
-invariant-loop-event g l = l.world.words ≡ l.fn.words
+invariant-loop-event g l = (l.world.words ≡ l.fn.words) × (length l.world.lanes ≡ l.fn.lanes)

@@ -16,5 +16,6 @@ loop-event-preserved g c =
           let P : List Event → Type 0 = λ es. StandsAt step machine (course step machine c.event.new.self.words es) c.event.new.self in
           subst P (one_more so_far events i _ c.loop-event-test.true) (c.in_ok-event.ensures.stands machine (so_far ++ take i events) (inv.stood machine so_far s));
       words = c.event.ensures.words ∙ inv.words;
+      lanes = c.event.ensures.lanes ∙ inv.lanes;
       few = few_more events i (entries_asked c.loop-event.world) (entries_asked c.event.new.self) 8192 _ c.loop-event-test.true c.event.ensures.entries inv.few;
     }

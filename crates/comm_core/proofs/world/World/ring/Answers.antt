@@ -1,34 +1,44 @@
-use Rattle.std.proofs.Common.{ℕ, ◌∙◌, sym, ap, arith}
+use Rattle.std.proofs.Common.{◌^◌, ◌<◌, length, true, ◌≡◌, ◌∙◌, sym, ap, arith}
 use Rattle.mm_base.specs.Prepared.{Readied}
-use Rattle.mm_base.specs.Room.{Roomy}
-use Rattle.comm_core.specs.Processor.{IsBlank}
-use Rattle.comm_core.specs.World.{WorldState}
-use Rattle.comm_core.specs.Transitions.{rung_at, prepared_for}
-use Rattle.comm_core.specs.declared.trace.Trace.{Trace}
-use Rattle.comm_core.proofs.ReadyLemmas.{may_ring}
-use Rattle.comm_core.proofs.WorldViews.{seen, rung_resting, seen_ring}
+use Rattle.comm_core.specs.Processor.{IsBlank, is_resting}
+use Rattle.comm_core.specs.Transitions.{records_left}
+use Rattle.comm_core.specs.World.{LaneState, WorldState, IsRoomy}
+use Rattle.comm_core.proofs.LaneLemmas.{read_there, same_there}
+use Rattle.comm_core.proofs.ReadyLemmas.{may_ring, ready_ring}
 use Rattle.comm_core.proofs.world.World.ring.Goals as goal
 
-pub feed-requires : goal.feed-requires
-feed-requires g c =
-    let resting = sym c.is_resting.ensures ∙ c.if-not-is_resting.false in
+pub ring-requires : goal.ring-requires
+ring-requires g c =
+    let within : c.args.lane < length c.self.inside.lanes.items = omega (arith, c.requires.lane, ap (λ (v : WorldState _). length v.lanes) c.self.view_is) in
+    let there = read_there c.self.inside.lanes.items c.args.lane c.index_mut.result.now within c.index_mut.ensures.value in
+    let at = c.index_mut.result.now in
+    let own = c.self.invariant.each c.args.lane at there in
+    let same = same_there c.self.inside.lanes.items c.args.lane c.index.result.now at within c.index.ensures c.index_mut.ensures.value in
+    let resting : is_resting at.processor.stage ≡ true = ap (λ (x : LaneState). is_resting x.processor.stage) (sym same) ∙ sym c.is_resting.ensures ∙ c.if-not-is_resting.false in
     let e = c.in_ok-prepared.ensures in
-    let blank : IsBlank c.self.inside.processor.words c.in_ok-prepared.prepared = record {
+    let blank : IsBlank at.processor.words c.in_ok-prepared.prepared = record {
       bytes = ap (λ (p : Readied). p.captured.items) e;
-      room = omega (arith, ap (λ (p : Readied). p.captured.room) e, c.self.invariant.processor_words);
+      room = omega (arith, ap (λ (p : Readied). p.captured.room) e, own.words_are);
     } in
-    may_ring c.self.inside.processor.words c.self.inside.processor.stage c.in_ok-prepared.prepared resting blank
+    may_ring at.processor.words at.processor.stage c.in_ok-prepared.prepared resting blank
 
-pub returns-clause-ok : goal.returns-clause-ok
-returns-clause-ok g c =
-    let resting = sym c.is_resting.ensures ∙ c.if-not-is_resting.false in
-    let p = c.in_ok-prepared.prepared in
+pub invariant_of-self-2 : goal.invariant_of-self-2
+invariant_of-self-2 g c =
+    let within : c.args.lane < length c.self.inside.lanes.items = omega (arith, c.requires.lane, ap (λ (v : WorldState _). length v.lanes) c.self.view_is) in
+    let there = read_there c.self.inside.lanes.items c.args.lane c.index_mut.result.now within c.index_mut.ensures.value in
+    let at = c.index_mut.result.now in
+    let words = c.self.inside.words in
     let calls = g.M.Machine.most_calls in
-    let m = c.self.inside.kept.machine in
-    let is_for = c.in_ok-prepared.ensures ∙ ap (λ (n : ℕ). prepared_for c.self.inside.words n) (c.calls.ensures ∙ ap calls c.machine.ensures) in
-    let w = seen c.self.inside.words c.self.inside.lane.items c.self.inside.processor m c.self.inside.kept.entries c.self.inside.trace in
-    seen_ring c.self.inside.words c.self.inside.lane.items c.self.inside.processor c.feed.new.self m c.self.inside.kept.entries c.self.inside.trace c.reserve.new.self p c.args.saved
-    c.feed.ensures (ap (λ (t : Roomy Trace). t.items) c.in_ok-reserve.ensures.ok)
-    ∙ sym (rung_resting w c.self.inside.processor.stage p c.args.saved resting)
-    ∙ ap (λ (x : Readied). rung_at w c.self.inside.processor.stage x c.args.saved) is_for
-    ∙ ap (λ (v : WorldState _). rung_at v v.stage (prepared_for v.words (calls v.machine)) c.args.saved) c.self.view_is
+    let same = same_there c.self.inside.lanes.items c.args.lane c.index.result.now at within c.index.ensures c.index_mut.ensures.value in
+    let resting : is_resting at.processor.stage ≡ true = ap (λ (x : LaneState). is_resting x.processor.stage) (sym same) ∙ sym c.is_resting.ensures ∙ c.if-not-is_resting.false in
+    let e = c.in_ok-prepared.ensures in
+    let are_calls = c.calls.ensures ∙ ap calls c.machine.ensures in
+    let roomy : IsRoomy words (calls c.self.inside.kept.machine) c.in_ok-prepared.prepared = record {
+      calls_fit = omega (arith, ap (λ (p : Readied). p.calls) e, are_calls);
+      reply = omega (arith, ap (λ (p : Readied). p.reply) e);
+      second = omega (arith, ap (λ (p : Readied). p.second) e);
+    } in
+    let left = c.records_to_come.ensures.value ∙ ap records_left c.as_slice.ensures.value in
+    let few : length c.self.inside.kept.entries < 2 ^ 32 = omega (arith, c.requires.room, ap (λ (v : WorldState _). length v.entries) c.self.view_is) in
+    ready_ring words c.self.inside.lanes.items (calls c.self.inside.kept.machine) (length c.self.inside.kept.entries) c.records_to_come.result c.most_actions.result c.self.inside.trace c.reserve.new.self
+    c.args.lane at c.ring.new.self c.in_ok-prepared.prepared c.args.saved c.self.invariant there resting few roomy c.ring.ensures left c.most_actions.ensures c.in_ok-reserve.ensures.ok

@@ -1,0 +1,7 @@
+use Rattle.std.proofs.Common.{◌≡◌}
+use Rattle.comm_core.specs.Transitions.{new_lanes}
+use Rattle.comm_core.proofs.world.new_lanes.Given as goal
+
+-- the lanes so far
+abbrev pub invariant-loop-lane : goal.invariant-loop-lane
+invariant-loop-lane l = l.made.items ≡ new_lanes l.words l.lane

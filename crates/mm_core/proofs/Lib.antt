@@ -1,0 +1,5 @@
+pub mod BufferLemmas
+pub mod ChainRunLemmas
+pub mod LawLemmas
+pub mod ScriptLemmas
+pub mod StepLemmas

@@ -1,0 +1,17 @@
+//! Laws of the entry step: who is dispatched, and which handlers run.
+ghost use Rattle.mm_core.specs.Laws.{DispatchedExactly, RootAlwaysRuns, ChainRunsInOrder};
+
+/// Handlers of a GUID are called exactly where the request is addressed to it.
+pub fn who_is_dispatched()
+    ensures { DispatchedExactly }
+{}
+
+/// At each entry all root handlers run, in order of registration.
+pub fn root_always_runs()
+    ensures { RootAlwaysRuns }
+{}
+
+/// The handlers of a GUID run in order of registration, from the first on.
+pub fn chain_runs_in_order()
+    ensures { ChainRunsInOrder }
+{}

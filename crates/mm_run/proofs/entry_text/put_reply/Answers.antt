@@ -1,7 +1,0 @@
-use Rattle.mm_run.proofs.PageLemmas.{◌▸◌}
-use Rattle.mm_run.specs.Report.{reply_line}
-use Rattle.mm_run.proofs.entry_text.put_reply.Goals as goal
-
-pub returns : goal.returns
-unfolding reply_line
-returns c = c.in_ok-put.ensures ▸ c.in_ok-put_bytes.ensures ▸ c.in_ok-put-2.ensures

@@ -1,0 +1,96 @@
+//! A text that is being written.
+ghost use Rattle.std.specs.Prelude.{◌≡◌, [], OnOk};
+ghost use Rattle.std.specs.Fmt.{decimal};
+ghost use Rattle.hex.specs.Hex.{encode_lower};
+ghost use Rattle.mm_text.specs.Adds.{Adds};
+ghost use Rattle.mm_text.specs.Report.{x16, bytes_text};
+
+use mm_base::{Bytes, List, NoMemory};
+use std::alloc::Global;
+use std::marker::Model;
+
+/// A text that grows at its end. Contracts see its bytes.
+#[derive(Drop)]
+pub struct Page {
+    alloc: Global,
+    text: Bytes,
+}
+
+impl Model for Page {
+    ghost use Rattle.std.specs.Prelude.{ℕ, List};
+
+    ghost Value = { List ℕ };
+
+    ghost view = { λ page. page.text };
+}
+
+impl Page {
+    /// An empty text. It takes no memory.
+    pub fn new(alloc: Global) -> Page
+        ensures { result ≡ [] }
+    {
+        Page {
+            alloc,
+            text: List::new(alloc),
+        }
+    }
+
+    /// The bytes of the text, moved and not copied.
+    pub fn into_bytes(self) -> Bytes
+        ensures { result ≡ self }
+    {
+        let Page { alloc: _, text } = self;
+        text
+    }
+
+    /// Puts these bytes at the end as they are.
+    pub fn put(&mut self, text: &[u8]) -> Result<(), NoMemory>
+        ensures { OnOk result (Adds self.old text.now self.new) }
+    {
+        self.text.extend(text)
+    }
+
+    /// Puts this text at the end.
+    pub fn put_text(&mut self, text: &str) -> Result<(), NoMemory>
+        ensures { OnOk result (Adds self.old text.now self.new) }
+    {
+        self.text.extend(text.as_bytes())
+    }
+
+    /// Puts a number in decimal at the end.
+    pub fn put_decimal(&mut self, number: u64) -> Result<(), NoMemory>
+        ensures { OnOk result (Adds self.old (decimal number) self.new) }
+    {
+        let text = number.to_string(self.alloc)?;
+        self.text.extend(text.as_bytes())
+    }
+
+    /// Puts a word as sixteen hexadecimal digits at the end.
+    #[tactic(auto, unfolding(crate::specs::Report::x16))]
+    pub fn put_x16(&mut self, word: u64) -> Result<(), NoMemory>
+        ensures { OnOk result (Adds self.old (x16 word) self.new) }
+    {
+        let mut digits = [0; 16];
+        let _ = hex::encode_to_slice(word.to_be_bytes(), &mut digits);
+        self.text.extend(&digits)
+    }
+
+    /// Puts bytes in hexadecimal at the end.
+    pub fn put_hex(&mut self, bytes: &[u8]) -> Result<(), NoMemory>
+        ensures { OnOk result (Adds self.old (encode_lower bytes.now) self.new) }
+    {
+        let text = hex::encode(self.alloc, bytes)?;
+        self.text.extend(text.as_bytes())
+    }
+
+    /// Puts bytes in hexadecimal at the end, or a dash where there are none.
+    pub fn put_bytes(&mut self, bytes: &[u8]) -> Result<(), NoMemory>
+        ensures { OnOk result (Adds self.old (bytes_text bytes.now) self.new) }
+    {
+        if bytes.is_empty() {
+            self.put(b"-")
+        } else {
+            self.put_hex(bytes)
+        }
+    }
+}
