@@ -1,5 +1,5 @@
 -- What is kept of the lines of a text stands for them, from line to line.
-use Rattle.std.proofs.Common.{◌≡◌, ℕ, zero, suc, ◌+◌, ◌*◌, ◌<◌, ◌≤◌, Bool, true, false, not, if◌then◌else◌, ◌&&◌, nat_lt, nat_le, cond, List, [], ◌∷◌, ◌++◌, length, Option, refl, ap, sym, subst, ◌∙◌, append_assoc, count_by, arith}
+use Rattle.std.proofs.Common.{◌≡◌, ℕ, suc, ◌+◌, ◌*◌, ◌<◌, ◌≤◌, Bool, true, false, not, if◌then◌else◌, ◌&&◌, nat_lt, nat_le, cond, List, [], ◌∷◌, ◌++◌, length, Option, refl, ap, sym, ◌∙◌, count_by, arith}
 use Rattle.std.proofs.lemmas.Bool.{and_parts, not-true, false≢true, ltb-true, leb-true}
 use Rattle.std.proofs.lemmas.List.{append-nil, length-append}
 use Rattle.std.proofs.lemmas.List.Concat.{flat_map-append}
@@ -10,7 +10,7 @@ use Rattle.mm_base.specs.declared.handler.Handler.{Handler as Registered}
 use Rattle.mm_base.specs.declared.handler.HandlerBody.TheVariants.{Stub}
 use Rattle.mm_core.specs.Scripted.{numbered}
 use Rattle.mm_text.specs.Fields.{keyword_of}
-use Rattle.mm_text.specs.ScriptText.{is_event, has_none, may_stand, lanes_in, words_in, is_handler, is_ring, are_distinct, is_in_range, events_of, cells_of, stubs_of, lanes_said, words_said, script_of}
+use Rattle.mm_text.specs.ScriptText.{is_event, has_none, may_stand, lanes_in, words_in, is_handler, is_ring, are_distinct, is_in_range, events_of, cells_of, stubs_of, script_of}
 use Rattle.mm_text.specs.ScriptReader.{phase_of, is_empty, is_opening, stands_in, are_registers, accepts, happened, behind, built, IsSmall, StandsFor}
 use Rattle.mm_text.specs.declared.line.CellKind.{CellKind}
 use Rattle.mm_text.specs.declared.line.Keyword.{Keyword}

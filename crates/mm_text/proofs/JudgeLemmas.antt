@@ -1,5 +1,5 @@
 -- How a line is judged: each is accepted as one line, or refused for one kind, and not both.
-use Rattle.std.proofs.Common.{◌≡◌, ℕ, zero, suc, ◌<◌, Bool, true, false, if◌then◌else◌, ◌==◌, inl, inr, ◌⊎◌, List, Option, Some, None, refl, ap, sym, subst, ◌∙◌, arith}
+use Rattle.std.proofs.Common.{◌≡◌, ℕ, ◌<◌, Bool, true, false, if◌then◌else◌, ◌==◌, inl, inr, ◌⊎◌, List, Option, Some, None, refl, ap, sym, ◌∙◌, arith}
 use Rattle.std.proofs.lemmas.Bool.{cases_order, false≢true}
 use Rattle.std.proofs.lemmas.Option.{none-some}
 use Rattle.mm_base.specs.declared.text.TextKind.{TextKind}
@@ -12,7 +12,7 @@ use Rattle.mm_text.proofs.LineLemmas.{spells_unique, spells_form, keyword_unique
 use Rattle.mm_text.specs.declared.line.Keyword.{Keyword}
 use Rattle.mm_text.specs.declared.line.Line.{Line}
 
--- words of at most one line of the text are spelled or formed by lines of one keyword
+-- the first word of a line is a keyword of the text, and such a line may stand there
 pub record IsKnown (handlers : Bool) (before : List Line) (words : List (List ℕ)) (keyword : Keyword) : Type 0 where
   pub named : IsKeyword handlers keyword (first_of words)
   pub in_order : may_stand before keyword ≡ true

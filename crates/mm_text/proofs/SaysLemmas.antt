@@ -1,10 +1,10 @@
 -- What texts say, line by line: a text of which more is read says more, and what a text says begins with what its front says.
-use Rattle.std.proofs.Common.{◌≡◌, ◌≢◌, ℕ, zero, suc, ◌+◌, ◌<◌, ◌≤◌, Bool, true, false, not, inl, inr, ◌⊎◌, List, [], ◌∷◌, ◌++◌, length, take, drop, map, Some, None, refl, ap, sym, subst, ◌∙◌, append_assoc, arith}
-use Rattle.std.proofs.lemmas.List.{append-nil, map-append, take_at, take_all, take-append-le, take-take, length-append, length-take-le, nil_from_length}
+use Rattle.std.proofs.Common.{◌≡◌, ℕ, zero, suc, ◌<◌, ◌≤◌, Bool, true, false, not, List, [], ◌∷◌, ◌++◌, length, take, drop, map, Some, refl, ap, sym, subst, ◌∙◌, arith}
+use Rattle.std.proofs.lemmas.List.{append-nil, map-append, take_at, take-append-le, take-take, length-append, length-take-le}
 use Rattle.std.proofs.lemmas.List.Elements.{filter-append}
 use Rattle.std.proofs.lemmas.Option.{none-some, same_Some, slice_get_within}
 use Rattle.std.specs.List.{filter, slice_get}
-use Rattle.mm_text.specs.ScriptText.{lines_of, words_of, is_passed, said_in, Says, IsAccepted}
+use Rattle.mm_text.specs.ScriptText.{words_of, is_passed, said_in, Says, IsAccepted}
 use Rattle.mm_text.specs.declared.line.Line.{Line}
 
 -- an item of a list is one of a longer list, at the same place

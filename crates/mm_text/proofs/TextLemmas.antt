@@ -1,14 +1,14 @@
 -- Texts as a whole: each spells one script or has one fault, and not both.
-use Rattle.std.proofs.Common.{◌≡◌, ◌≢◌, ℕ, zero, suc, ◌+◌, ◌<◌, ◌≤◌, Bool, true, false, inl, inr, ◌⊎◌, List, [], ◌∷◌, ◌++◌, length, take, drop, Some, None, refl, ap, sym, subst, ◌∙◌, append_assoc, arith}
+use Rattle.std.proofs.Common.{◌≡◌, ℕ, zero, suc, ◌+◌, ◌<◌, ◌≤◌, Bool, true, false, inl, inr, ◌⊎◌, List, [], ◌∷◌, ◌++◌, length, take, drop, Some, refl, ap, sym, subst, ◌∙◌, append_assoc, arith}
 use Rattle.std.proofs.lemmas.Bool.{cases_order}
 use Rattle.std.proofs.lemmas.List.{append-nil, take_at, take_all, take-take, length-append, nil_from_length}
-use Rattle.std.proofs.lemmas.Option.{same_Some, slice_get_within}
+use Rattle.std.proofs.lemmas.Option.{same_Some}
 use Rattle.std.specs.List.{slice_get}
 use Rattle.mm_base.specs.declared.text.TextKind.{TextKind}
 use Rattle.mm_base.specs.declared.text.TextKind.TheVariants.{Missing}
 use Rattle.mm_text.specs.ScriptText.{lines_of, words_of, is_passed, said_in, Says, IsAccepted, IsScript, script_of}
 use Rattle.mm_text.specs.Refusal.{IsRefused, IsFirstRefused, IsMissing, IsRefusedLine, IsFault, Missed, RefusedLine}
-use Rattle.mm_text.proofs.SaysLemmas.{SaysWords, IsNext, says-words, words-says, says-none, says-passed, says-more, says-front, says-next, said_in-append, said_in-said, split-some, get-seam, some-at, take-some, get-take}
+use Rattle.mm_text.proofs.SaysLemmas.{SaysWords, IsNext, says-words, says-none, says-passed, says-more, says-front, says-next, said_in-append, said_in-said, split-some, get-seam, some-at, take-some, get-take}
 use Rattle.mm_text.proofs.JudgeLemmas.{Judged, judged, accepted-unique, accepted-fits, refused-unique}
 use Rattle.mm_text.specs.declared.line.Line.{Line}
 use Rattle.mm_text.specs.declared.text_end.TextFault.{TextFault}

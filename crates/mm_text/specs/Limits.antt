@@ -1,5 +1,5 @@
 -- Within which limits a script is that was read from a text.
-use Rattle.std.specs.Prelude.{ℕ, ◌+◌, ◌<◌, ◌≤◌, length}
+use Rattle.std.specs.Prelude.{◌≤◌, length}
 use Rattle.std.specs.List.{All, sum_by}
 use Rattle.mm_base.specs.Cells.{IsOpening}
 use Rattle.mm_core.specs.Scripted.{AreStubs}

@@ -112,7 +112,7 @@ fn read_lines(alloc: Global, bytes: &[u8], handlers: bool) -> Result<ScriptBuild
     Ok(builder)
 }
 
-/// Takes in one more line of a text.
+/// Takes in one more line of a text; the cost is linear in its bytes.
 fn take_line(
     alloc: Global,
     builder: &mut ScriptBuilder,

@@ -1,6 +1,5 @@
 use Rattle.std.proofs.Common.{ap, rules}
 use Rattle.std.proofs.lemmas.List.FromFn.{fill_by_all}
-use Rattle.mm_base.specs.declared.cells.Saved.{Saved}
 use Rattle.mm_text.specs.ScriptText.{value_of}
 use Rattle.mm_text.proofs.registers.saved_registers.Goals as goal
 

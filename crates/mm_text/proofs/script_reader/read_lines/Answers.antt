@@ -1,4 +1,4 @@
-use Rattle.std.proofs.Common.{◌≡◌, ℕ, ◌+◌, ◌<◌, List, [], ◌∷◌, ◌++◌, Option, Some, None, ◌==◌, Bor, length, map, take, get_or, sym, ap, subst, ◌∙◌, rules, tests, arith}
+use Rattle.std.proofs.Common.{◌≡◌, ℕ, ◌+◌, List, Option, Some, None, ◌==◌, Bor, length, map, take, sym, ap, subst, ◌∙◌, rules, tests}
 use Rattle.std.specs.Iterator.{Yields}
 use Rattle.std.specs.List.{slice_get, slice_split}
 use Rattle.std.proofs.lemmas.Iterator.{YieldsList}

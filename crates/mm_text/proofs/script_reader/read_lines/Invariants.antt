@@ -1,4 +1,4 @@
-use Rattle.std.proofs.Common.{◌≡◌, ◌≤◌, length, map}
+use Rattle.std.proofs.Common.{◌≡◌, length, map}
 use Rattle.mm_text.specs.ScriptReader.{HasRead, IsSmall}
 use Rattle.mm_text.proofs.script_reader.read_lines.Given as goal
 

@@ -1,5 +1,5 @@
 use Rattle.std.proofs.Common.{sym, ◌∙◌}
-use Rattle.mm_text.proofs.ReaderLemmas.{script-read, missing-read}
+use Rattle.mm_text.proofs.ReaderLemmas.{script-read}
 use Rattle.mm_text.proofs.script_reader.script_in.Goals as goal
 
 pub returns-clause-script : goal.returns-clause-script

@@ -1,4 +1,4 @@
-use Rattle.std.proofs.Common.{◌≡◌, ℕ, List, length, nat_lt, ◌==◌, map, rules, tests, subst, Result, IfOk, Vec}
+use Rattle.std.proofs.Common.{ℕ, List, length, nat_lt, ◌==◌, rules, tests}
 use Rattle.std.proofs.lemmas.Iterator.Consumers.{map_from_collect, YieldsList-from_filter, YieldsList-at}
 use Rattle.std.proofs.lemmas.Iterator.Splits.{YieldsList-from_slice_split}
 use Rattle.mm_text.proofs.script_reader.words_of.Goals as goal

@@ -1,4 +1,4 @@
-use Rattle.std.proofs.Common.{◌≤◌, length, arith, ap, ◌∙◌}
+use Rattle.std.proofs.Common.{length, arith, ap}
 use Rattle.mm_text.proofs.BuilderLemmas.{poke-fits, fill-fits, ring-fits, step-fits, steps-fit, run-fits}
 use Rattle.mm_text.proofs.script_builder.ScriptBuilder.take.Goals as goal
 
