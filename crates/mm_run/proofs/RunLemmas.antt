@@ -1,14 +1,14 @@
 -- From a script to the world that it drives.
-use Rattle.std.proofs.Common.{◌≡◌, ◌≤◌, ◌<◌, ℕ, zero, suc, ◌+◌, List, [], ◌∷◌, ◌++◌, All, length, map, take, sum_by, get_or, Bool, true, false, Some, None, slice_index, ◌⊎◌, inl, inr, refl, sym, ap, ◌∙◌, subst, arith}
-use Rattle.std.proofs.lemmas.List.{append-nil, length-append, length-map, get_or-map}
-use Rattle.std.proofs.lemmas.Option.{none-some, same_Some, slice_get-get_or}
+use Rattle.std.proofs.Common.{◌≡◌, ◌<◌, ℕ, zero, suc, ◌+◌, List, [], ◌∷◌, ◌++◌, All, length, map, take, true, false, Some, None, slice_index, ◌⊎◌, inl, inr, refl, sym, ap, ◌∙◌, subst, arith}
+use Rattle.std.proofs.lemmas.List.{append-nil, length-append}
+use Rattle.std.proofs.lemmas.Option.{none-some, same_Some}
 use Rattle.std.specs.List.{range_with_len, slice_get}
 use Rattle.std.proofs.lemmas.List.Elements.{All-same}
 use Rattle.std.specs.declared.option.Option.{Option}
 use Rattle.mm_base.specs.Replay.{replayed}
 use Rattle.mm_io.specs.Streams.{Appends, AppendsFront, Gives, GivesAll, IsUsedUp}
 use Rattle.comm_core.specs.Capture.{Mark, trace_of, course, requests, value_at, pieces_in}
-use Rattle.comm_core.specs.World.{LaneState, WorldState, StandsFor, IsOfWorld, rings_in}
+use Rattle.comm_core.specs.World.{LaneState, WorldState, StandsFor, IsOfWorld}
 use Rattle.comm_core.specs.declared.event.Event.{Event}
 use Rattle.comm_core.specs.declared.script.Script.{Script}
 use Rattle.comm_core.proofs.HeadlineLemmas.{pieces_told, headline_of}

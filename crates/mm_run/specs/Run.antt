@@ -8,7 +8,6 @@ use Rattle.std.specs.declared.option.Option.{Option}
 use Rattle.std.specs.Prelude.{Some, None}
 use Rattle.mm_base.specs.Replay.{replayed}
 use Rattle.mm_base.specs.declared.entry.Entry.{Entry}
-use Rattle.mm_base.specs.declared.text.TextKind.{TextKind}
 use Rattle.mm_io.specs.Streams.{Appends, AppendsFront, GivesAll, GivesAtMost, GivesMoreThan}
 use Rattle.comm_core.specs.Capture.{Mark, trace_of, course, requests, value_at, pieces, pieces_in}
 use Rattle.comm_core.specs.Headline.{Headline}

@@ -7,9 +7,7 @@ ghost use Rattle.mm_text.specs.Report.{register_words, register_line, shape_line
 
 use crate::page::Page;
 use crate::record_text::put_invocations;
-use mm_base::{
-    Entry, Guid, HEADER_BYTES, NoMemory, Outcome, Request, Saved, Shape, WORD_BYTES,
-};
+use mm_base::{Entry, Guid, HEADER_BYTES, NoMemory, Outcome, Request, Saved, Shape, WORD_BYTES};
 
 /// All lines of entry k.
 pub fn put_entry(page: &mut Page, k: u64, entry: &Entry) -> Result<(), NoMemory>

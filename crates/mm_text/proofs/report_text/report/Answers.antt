@@ -1,4 +1,4 @@
-use Rattle.std.proofs.Common.{refl, ap, ◌∙◌}
+use Rattle.std.proofs.Common.{refl, ◌∙◌}
 use Rattle.mm_text.proofs.PageLemmas.{◌▸◌}
 use Rattle.mm_text.specs.Report.{report_of}
 use Rattle.mm_text.proofs.report_text.report.Goals as goal
