@@ -94,7 +94,7 @@ impl Lane {
         ensures lane { self.new ≡ lane_loaded self.old word }
     {
         let value = self.values[word as usize];
-        self.processor.feed(Fed::Loaded(value));
+        self.processor.loaded(value);
         value
     }
 
@@ -123,7 +123,7 @@ impl Lane {
         ensures { self.new ≡ lane_stored self.old word value }
     {
         self.values[word as usize] = value;
-        self.processor.feed(Fed::Stored);
+        self.processor.stored();
     }
 }
 

@@ -1,7 +1,7 @@
 //! The processor of a lane: it captures a request word by word, and stores the answer word by word.
 ghost use Rattle.std.specs.Prelude.{◌≡◌, ◌≤◌, ◌<◌, ◌+◌, ◌*◌, nat_lt, if◌then◌else◌, length};
 ghost use Rattle.comm_core.specs.Piece.{needed as needed_words};
-ghost use Rattle.comm_core.specs.Processor.{next_action, is_resting as rests_at, to_come, behind_fed, length_loaded, behind_load as after_load, behind_store as after_store, sealed, IsSound, MayFeed, MayFeedSoundly, MayLoadSoundly, MayStoreSoundly, MayTake};
+ghost use Rattle.comm_core.specs.Processor.{next_action, is_resting as rests_at, to_come, behind_fed, length_loaded, behind_load as after_load, behind_store as after_store, sealed, IsSound, MayFeed, MayFeedSoundly, MayLoad, MayLoadSoundly, MayStore, MayStoreSoundly, MayTake};
 
 use crate::Action;
 use crate::answer::{answer_at, answer_length};
@@ -115,6 +115,22 @@ impl Processor {
         ensures { self.new ≡ record self.old { stage = behind_fed self.old.stage fed } }
     {
         self.stage.go_on(fed);
+    }
+
+    /// Goes on by a load of this value: as `feed` does, without the room of all that may be fed.
+    pub(crate) fn loaded(&mut self, value: u64)
+        requires { MayLoad self.old.words self.old.stage }
+        ensures { self.new ≡ record self.old { stage = after_load self.old.stage value } }
+    {
+        self.stage.load(value);
+    }
+
+    /// Goes on by a store: as `feed` does, without the room of all that may be fed.
+    pub(crate) fn stored(&mut self)
+        requires { MayStore self.old.stage }
+        ensures { self.new ≡ record self.old { stage = after_store self.old.stage } }
+    {
+        self.stage.store();
     }
 
     /// Hands out the memory that the ring fed, with the request that was captured in it.

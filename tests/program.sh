@@ -1,0 +1,84 @@
+#!/usr/bin/env bash
+# The built program from a shell: each exit status that can be had there, what it writes, and the one line that it says on
+# standard error. Its path is the first argument; without one it is that which `rt ci` leaves.
+set -u
+top=$(cd "$(dirname "$0")/.." && pwd)
+program=${1:-$top/crates/mm_main/out/mm_main}
+if [ ! -x "$program" ]; then
+    echo "program.sh: $program is not there: run rt ci first" >&2
+    exit 1
+fi
+program=$(realpath "$program")
+folder=$(mktemp -d)
+trap 'rm -rf "$folder"' EXIT
+cd "$folder" || exit 1
+passed=0
+failed=0
+
+# ends STATUS OUT ERR COMMAND..: the command ends with this status, writes what the file OUT has (`-`: nothing) to standard output,
+# and says just the line ERR (empty: nothing) on standard error.
+ends() {
+    local status=$1 out=$2 err=$3 got
+    shift 3
+    "$@" > said.out 2> said.err
+    got=$?
+    [ "$out" = - ] && out=/dev/null
+    if [ $got = "$status" ] && cmp -s said.out "$out" && [ "$(cat said.err)" = "$err" ] && [ "$(wc -l < said.err)" = "$([ -n "$err" ] && echo 1 || echo 0)" ]; then
+        passed=$((passed + 1))
+    else
+        failed=$((failed + 1))
+        echo "program.sh: wanted $status and '$err' of: $*" >&2
+        echo "program.sh: got $got and '$(cat said.err)'; standard output has $(wc -c < said.out) bytes" >&2
+    fi
+}
+
+# full COMMAND..: the command with a full device as its standard output.
+full() { "$@" > /dev/full; }
+
+printf '%s\n' 'lanes 1 4' '# a request for the version' '' '  fill 0  31564d4d01000040800000000000000108000000000000000000000000000000' 'ring 0' 'run 0' > version.script
+printf '%s\n' \
+    'entry 0 lane 0 loads 5 status 0000000000000000' \
+    '  request 0000000000000020 31564d4d01000040800000000000000108000000000000000000000000000000' \
+    '  dispatched 4d4d5631-0001-4000-8000-000000000001' \
+    '  handler 0 returned 0000000000000000' \
+    '  reply 31564d4d01000040800000000000000108000000000000000800010000000000' \
+    'lane 0 length 0000000000000020 status 0000000000000000 data 31564d4d01000040800000000000000108000000000000000800010000000000' > version.report
+ends 0 version.report '' "$program" script version.script
+
+usage='mm_main: usage: mm_main script FILE'
+ends 1 - "$usage" "$program"
+ends 1 - "$usage" "$program" script
+ends 1 - "$usage" "$program" script version.script more
+ends 1 - "$usage" "$program" Script version.script
+ends 1 - "$usage" "$program" --help
+ends 1 - "$usage" "$program" live version.script version.script
+ends 1 - "$usage" "$program" script "$(printf '\377')"
+
+# refused TEXT LINE WHY: a script of this text is refused at this line.
+refused() {
+    printf "$1" > refused.script
+    ends 3 - "mm_main: \"refused.script\", line $2: $3" "$program" script refused.script
+}
+refused 'lanes 1 4\nwait 0\n' 2 'its first word begins no line: a line is lanes, cell, handler, poke, fill, ring, step or run'
+refused 'ring 0\n' 1 'it may not stand here: lanes stands first and once, cell and handler before all that happens'
+refused 'lanes 1 4\n\nring\n' 3 "it has too many or too few words, or one that such a line doesn't know"
+refused 'lanes 1 4\r\n' 1 "one of its words can't be read as the number, bytes or GUID that stand there"
+refused 'lanes 1 4\npoke 0 6 1' 2 "a number is out of its range, or names what isn't there"
+refused '' 1 'the script has no line that says anything'
+
+ends 4 - 'mm_main: "nowhere.script" could not be opened or read' "$program" script nowhere.script
+ends 4 - 'mm_main: "" could not be opened or read' "$program" script ''
+mkdir folder.script
+ends 4 - 'mm_main: "folder.script" could not be opened or read' "$program" script folder.script
+
+if [ -e /dev/full ]; then
+    ends 5 - 'mm_main: standard output could not be written' full "$program" script version.script
+fi
+
+head -c 4194305 /dev/zero | tr '\0' '\n' > long.script
+ends 6 - 'mm_main: "long.script" has more than 4194304 bytes' "$program" script long.script
+head -c $((4194304 - $(wc -c < version.script))) /dev/zero | tr '\0' '\n' | cat version.script - > whole.script
+ends 0 version.report '' "$program" script whole.script
+
+echo "program.sh: $passed passed, $failed failed"
+[ "$failed" = 0 ]
