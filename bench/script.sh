@@ -4,7 +4,8 @@
 # nobody answers. It prints the best of 5 times for each entry, without the time of a script without rings; the
 # program's peak memory; and the ratio of an entry of the longer script to one of the shorter. Beside "full" it prints
 # what `xxd -p` takes for as many bytes as were captured, 4,096 for each entry, without the time that it takes for none,
-# and the ratio of the program to that.
+# and the ratio of the program to that. Then what texts cost: 1 and 4 MiB of comments, of lines of one character, of pokes, and of
+# one long line, as the best of 5 times for each MiB, the ratio of the longer to the shorter, and what `wc -w` takes for the same.
 set -eu
 program=$(realpath "${1:-$(dirname "$0")/../crates/mm_main/out/mm_main}")
 folder=$(mktemp -d)
@@ -68,5 +69,33 @@ for kind in small full; do
             echo "xxd -p of as many bytes: $(per_entry $xxd_net $count); ratio $(ratio $net $xxd_net)"
         fi
         if [ "$count" = 1024 ]; then short=$net; else echo "$kind, ratio an entry: $(ratio $net $((8 * short)))"; fi
+    done
+done
+
+# text KIND BYTES: a script of so many bytes, most of them lines of this kind.
+text() {
+    local line
+    echo 'lanes 1 4'
+    case $1 in
+    comments) line='# nothing that anybody reads, and as long as most lines of a script are' ;;
+    characters) line='#' ;;
+    pokes) line='poke 0 5 ffffffffffffffff' ;;
+    esac
+    if [ "$1" = "one line" ]; then
+        printf '# %*s\n' $(($2 - 20)) x
+    else
+        yes "$line" | head -c $(($2 - 20)) | head -n -1
+    fi
+}
+
+for kind in comments characters pokes "one line"; do
+    for size in 1 4; do
+        text "$kind" $((size * 1048576)) > text.script
+        best 5 "$program" script text.script
+        net=$(((time - start) / size))
+        best 5 wc -w text.script
+        wc_net=$((time / size))
+        echo "$size MiB of $kind: $net us a MiB; wc -w $wc_net us, ratio $(ratio $net $wc_net)"
+        if [ "$size" = 1 ]; then short=$net; else echo "$kind, ratio a MiB: $(ratio $net $short)"; fi
     done
 done
