@@ -1,0 +1,5 @@
+pub mod FileHeader
+pub mod Sections
+pub mod VolumeGrammar
+pub mod VolumeHeader
+pub mod VolumeLaws

@@ -1,0 +1,7 @@
+//! Firmware volumes: the files of a volume, and the sections of a file.
+#![tactic(auto)]
+
+mod reading;
+
+pub use mm_base::{File, Section, SectionFault, Volume, VolumeKind};
+pub use reading::{VolumeEnd, VolumeFault};
