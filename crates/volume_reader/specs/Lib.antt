@@ -1,4 +1,5 @@
 pub mod FileHeader
+pub mod Finding
 pub mod Sections
 pub mod VolumeGrammar
 pub mod VolumeHeader

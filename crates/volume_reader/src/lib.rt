@@ -1,6 +1,10 @@
 //! Firmware volumes: the files of a volume, and the sections of a file.
 #![tactic(auto)]
 
+mod area;
+mod bytes;
+mod header;
+mod life;
 mod reading;
 
 pub use mm_base::{File, Section, SectionFault, Volume, VolumeKind};
