@@ -1,2 +1,4 @@
 pub mod ByteLemmas
 pub mod HeaderLemmas
+pub mod AreaLemmas
+pub mod WalkLemmas

@@ -3,7 +3,10 @@ use Rattle.std.specs.Prelude.{◌≡◌, ℕ, ◌+◌, Bool, true, false, if◌t
 use Rattle.mm_base.specs.declared.volume.File.{File}
 use Rattle.volume_reader.specs.VolumeHeader.{up_to_8}
 use Rattle.volume_reader.specs.FileHeader.{Area, size_at, file_at}
-use Rattle.volume_reader.specs.VolumeGrammar.{EndsAt, Span, HasHeader, StandsAt, place_behind, files_of, IsBadAt, IsRefusedAt}
+use Rattle.volume_reader.specs.VolumeGrammar.{EndsAt, Span, HasHeader, StandsAt, place_behind, files_of, IsBadAt, IsRefusedAt, Leads, files_in}
+use Rattle.volume_reader.specs.declared.reading.VolumeFault.{VolumeFault}
+use Rattle.volume_reader.specs.declared.reading.VolumeEnd.{VolumeEnd}
+use Rattle.volume_reader.specs.declared.reading.VolumeEnd.TheVariants.{Fault, NoMemory}
 use Rattle.volume_reader.specs.declared.area.Found.{Found}
 use Rattle.volume_reader.specs.declared.area.Found.TheVariants.{End, Refused, Behind}
 
@@ -31,3 +34,22 @@ FindsFile area at counts End = ⊥
 FindsFile area at counts (Refused kind) = IsBadAt area at kind
 FindsFile area at counts (Behind next file) =
     HasHeader area at × (next ≡ up_to_8 (at + size_at area at)) × (file ≡ (if counts then Some (file_at area at) else None))
+
+-- These are the files from a place on: spans lead from it to one where files end.
+pub record AreFiles (area : Area) (first : ℕ) (files : List File) : Type 0 where
+  pub spans : List Span
+  pub end : ℕ
+  pub leads : Leads area first spans end
+  pub ends : EndsAt area end
+  pub are : files ≡ files_in area first spans
+
+-- Spans lead from a place to one that is refused.
+pub record HasFaultFrom (area : Area) (first : ℕ) (fault : VolumeFault) : Type 0 where
+  pub spans : List Span
+  pub leads : Leads area first spans fault.at
+  pub refused : IsRefusedAt area fault.at fault.kind
+
+-- A reader ended by such a fault, or for want of memory.
+abbrev pub EndsBy : (VolumeFault → Type 0) → VolumeEnd → Type 0
+EndsBy HasIt (Fault fault) = HasIt fault
+EndsBy HasIt NoMemory = Unit {0}

@@ -1,5 +1,5 @@
 //! The headers of files, and what stands at a place of a volume.
-ghost use Rattle.std.specs.Prelude.{◌≡◌, ◌+◌, ◌≤◌, length, true, OnNone, IfSome};
+ghost use Rattle.std.specs.Prelude.{◌≡◌, ◌+◌, ◌≤◌, length, true, MatchOption};
 ghost use Rattle.volume_reader.specs.FileHeader.{has_room as has_room_for, life_at as life_told, says_large as is_said_large, is_large as is_a_large, header_size as header_size_of, size_at as size_told, header_sum_is_zero, size_fits as fits_in, is_sound as is_a_sound, file_at as file_told};
 ghost use Rattle.volume_reader.specs.VolumeGrammar.{HasHeader, IsBadAt};
 ghost use Rattle.volume_reader.specs.Finding.{Finds, FindsFile};
@@ -30,7 +30,7 @@ const STATE_BITS: u8 = 0x3f;
 
 /// What files are read in: the bytes of a volume, whether its file system is FFS3, and whether what is erased reads as
 /// ones.
-#[derive(Clone, Copy, Debug)]
+#[derive(Drop)]
 pub(crate) struct Area<'a> {
     pub(crate) bytes: &'a [u8],
     pub(crate) ffs3: bool,
@@ -139,8 +139,7 @@ impl<'a> Area<'a> {
     /// What the header at a place is refused for; linear in the header.
     fn header_fault(&self, at: usize) -> Option<VolumeKind>
         requires { has_room_for self.now at 24 ≡ true }
-        ensures none { OnNone result (HasHeader self.now at) }
-        ensures some { IfSome result (IsBadAt self.now at) }
+        ensures { MatchOption result (HasHeader self.now at) (IsBadAt self.now at) }
     {
         if self.is_large(at) && !self.has_room(at, LARGE_HEADER_BYTES) {
             return Some(VolumeKind::FileSize);
