@@ -2,7 +2,7 @@
 use Rattle.std.proofs.Common.{Result, Ok, Err, IfErr, ◌≡◌, ℕ, zero, suc, get_or, take, tests, ◌+◌, ◌*◌, ◌/◌, ◌≤◌, ◌<◌, Bool, true, false, cond, ◌&&◌, ◌||◌, not, List, [], ◌∷◌, length, Option, Some, None, refl, sym, ap, ◌∙◌, subst, arith, rules, nat_le, ◌==◌, find}
 use Rattle.std.proofs.lemmas.Bool.Decides.{nat_tests}
 use Rattle.mm_base.specs.declared.volume.VolumeKind.TheVariants.{Short}
-use Rattle.volume_reader.specs.VolumeHeader.{Check, checks, first_failing, header_length, volume_length, ext_header, ext_size, ext_header_fits, first_place}
+use Rattle.volume_reader.specs.VolumeHeader.{Check, checks, first_failing, header_length, volume_length, ext_header, ext_size, ext_header_fits, first_place, up_to_8}
 use Rattle.volume_reader.specs.VolumeGrammar.{HasBadHeader}
 use Rattle.volume_reader.specs.declared.reading.VolumeFault.{VolumeFault}
 
@@ -82,3 +82,17 @@ pub ext_in : (bytes : List ℕ) → first_failing bytes ≡ None → (ext_header
 ext_in bytes none there =
     let fits = (passed bytes none).ext in
     record { room = grind (arith, nat_tests); fits = grind (arith, nat_tests) }
+
+-- the first file stands in the volume, or up to 7 bytes behind it
+pub first_near : (bytes : List ℕ) → first_failing bytes ≡ None → first_place bytes ≤ volume_length bytes + 7
+first_near bytes none = near (ext_header bytes == 0) refl
+  where
+    near : (absent : Bool) → (ext_header bytes == 0) ≡ absent → first_place bytes ≤ volume_length bytes + 7
+    near true is =
+        let p = passed bytes none in
+        let e : first_place bytes ≡ up_to_8 (header_length bytes) = rw is in
+        omega (arith, p.header)
+    near false is =
+        let q = ext_in bytes none (λ zero. grind (arith, nat_tests)) in
+        let e : first_place bytes ≡ up_to_8 (ext_header bytes + ext_size bytes) = rw is in
+        omega (arith, q.fits)

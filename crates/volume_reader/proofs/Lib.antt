@@ -2,3 +2,4 @@ pub mod ByteLemmas
 pub mod HeaderLemmas
 pub mod AreaLemmas
 pub mod WalkLemmas
+pub mod LawLemmas

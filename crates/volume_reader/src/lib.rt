@@ -4,8 +4,9 @@
 mod area;
 mod bytes;
 mod header;
+pub mod laws;
 mod life;
 mod reading;
 
 pub use mm_base::{File, Section, SectionFault, Volume, VolumeKind};
-pub use reading::{VolumeEnd, VolumeFault};
+pub use reading::{VolumeEnd, VolumeFault, read_volume};
