@@ -50,15 +50,21 @@ passed_first check others false is none =
     let e : Some check ≡ None = sym (stops_at check others is) ∙ none in
     cc
 
-all_pass : (all : List Check) → first_of all ≡ None → AllPass all
+pub all_pass : (all : List Check) → first_of all ≡ None → AllPass all
 all_pass [] none = tt
 all_pass (check ∷ others) none =
     let h = passed_first check others check.passes refl none in
     (h.0, all_pass others h.1)
 
+-- and where each is passed, no check fails
+pub none_fails : (all : List Check) → AllPass all → first_of all ≡ None
+none_fails [] pass = refl
+none_fails (check ∷ others) pass = passes_on check others pass.0 ∙ none_fails others pass.1
+
 -- what a header that passes all checks says of its lengths
 pub record Passed (bytes : List ℕ) : Type 0 where
   pub fixed : 64 ≤ length bytes
+  pub least : 64 ≤ header_length bytes
   pub header : header_length bytes ≤ volume_length bytes
   pub within : volume_length bytes ≤ length bytes
   pub ext : ext_header_fits bytes ≡ true
@@ -68,6 +74,7 @@ passed bytes none =
     let pass : AllPass (checks bytes) = all_pass (checks bytes) none in
     record {
       fixed = search (rules, tests);
+      least = search (rules, tests);
       header = search (rules, tests);
       within = search (rules, tests);
       ext = pass.1.1.1.1.1.1.1.0;

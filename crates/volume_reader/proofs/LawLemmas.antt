@@ -256,17 +256,16 @@ record Stopped (area : Area) (at : ℕ) : Type 0 where
   pub leads : Leads area at spans end
   pub stops : StopsAt area end
 
+stopped_from : (area : Area) (at : ℕ) → Standing area at → ((place : ℕ) → at < place → Stopped area place) → Stopped area at
+stopped_from area at (Ends ends) rest = record { spans = []; end = at; leads = refl; stops = inl ends }
+stopped_from area at (IsRefused kind refused) rest = record { spans = []; end = at; leads = refl; stops = inr (kind, refused) }
+stopped_from area at (Stands span stands) rest =
+    let more = rest (place_behind area at span) (moves_on area at span stands).0 in
+    record { spans = span ∷ more.spans; end = more.end; leads = (stands, more.leads); stops = more.stops }
+
 stopped : (fuel : ℕ) (area : Area) (at : ℕ) → length area.bytes + 8 ≤ at + fuel → Stopped area at
 stopped zero area at far = record { spans = []; end = at; leads = refl; stops = inl (inl (grind (arith, nat_tests))) }
-stopped (suc fuel) area at near = behind (standing area at)
-  where
-    behind : Standing area at → Stopped area at
-    behind (Ends ends) = record { spans = []; end = at; leads = refl; stops = inl ends }
-    behind (IsRefused kind refused) = record { spans = []; end = at; leads = refl; stops = inr (kind, refused) }
-    behind (Stands span stands) =
-        let moves = moves_on area at span stands in
-        let rest = stopped fuel area (place_behind area at span) (omega (arith, moves.0)) in
-        record { spans = span ∷ rest.spans; end = rest.end; leads = (stands, rest.leads); stops = rest.stops }
+stopped (suc fuel) area at near = stopped_from area at (standing area at) (λ place behind. stopped fuel area place (omega arith))
 
 pub either : (bytes : List ℕ) → ((volume : Volume) × IsVolume bytes volume) ⊎ ((fault : VolumeFault) × HasFault bytes fault)
 either bytes = by_header (first_failing bytes) refl

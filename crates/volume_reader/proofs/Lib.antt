@@ -3,3 +3,4 @@ pub mod HeaderLemmas
 pub mod AreaLemmas
 pub mod WalkLemmas
 pub mod LawLemmas
+pub mod CutLemmas
