@@ -1,7 +1,9 @@
 -- The sections of a file: EFI_COMMON_SECTION_HEADER and EFI_COMMON_SECTION_HEADER2 of PI 1.8, volume 3.
-use Rattle.std.specs.Prelude.{◌≡◌, ◌⊎◌, ℕ, ◌+◌, ◌-◌, ◌*◌, ◌/◌, Bool, true, false, if◌then◌else◌, ◌==◌, ◌&&◌, nat_le, List, [], ◌∷◌, length, take, drop}
+use Rattle.std.specs.Prelude.{◌≡◌, ◌≤◌, ℕ, ◌+◌, ◌-◌, ◌*◌, ◌/◌, Bool, true, false, if◌then◌else◌, ◌==◌, ◌&&◌, nat_le, List, [], ◌∷◌, length, take, drop, Option, Some, None, Result, Ok, Err}
+use Rattle.std.specs.List.{slice_get}
 use Rattle.mm_base.specs.declared.volume.File.{File}
 use Rattle.mm_base.specs.declared.volume.Section.{Section}
+use Rattle.mm_base.specs.declared.volume.SectionFault.{SectionFault}
 use Rattle.volume_reader.specs.VolumeHeader.{number_at}
 
 -- the body of a file
@@ -62,3 +64,48 @@ pub record IsRefusedBehind (body : List ℕ) (begin : ℕ) (sections : List Sect
   pub reached : Reaches body begin sections at
   pub there : nat_le (at + 4) (length body) ≡ true
   pub bad : has_section body at ≡ false
+
+-- A walk over the sections of a body that begins at this place of the bytes: the next one is looked for at a place of the body.
+pub record Walk : Type 0 where
+  pub body : List ℕ
+  pub begin : ℕ
+  pub place : ℕ
+
+-- a walk over the sections of a file, from its first one on
+abbrev pub walk_of : List ℕ → File → Walk
+walk_of bytes file = record { body = body_of bytes file; begin = file.body_at; place = 0 }
+
+-- what a walk gives next: a section; nothing, where sections end; or that what stands there is refused
+abbrev pub given_next : Walk → Result (Option Section) SectionFault
+given_next walk =
+    if nat_le (walk.place + 4) (length walk.body) then
+      (if has_section walk.body walk.place then Ok (Some (section_at walk.body walk.begin walk.place)) else Err (record { at = walk.begin + walk.place }))
+    else Ok None
+
+-- the walk behind that: it has moved where a section was given, and is the same else
+abbrev pub walked_on : Walk → Walk
+walked_on walk =
+    if nat_le (walk.place + 4) (length walk.body) && has_section walk.body walk.place then
+      record walk { place = section_behind walk.body walk.place }
+    else walk
+
+-- A body has this section behind so many others.
+pub record HasSection (body : List ℕ) (begin : ℕ) (index : ℕ) (section : Section) : Type 0 where
+  pub sections : List Section
+  pub to : ℕ
+  pub reached : Reaches body begin sections to
+  pub there : slice_get sections index ≡ Some section
+
+-- A body has at most so many sections, and no fault behind them.
+pub record HasAtMost (body : List ℕ) (begin : ℕ) (index : ℕ) : Type 0 where
+  pub sections : List Section
+  pub are : AreSections body begin sections
+  pub few : length sections ≤ index
+
+-- Behind at most so many sections of a body one is refused.
+pub record HasSectionFault (body : List ℕ) (begin : ℕ) (index : ℕ) (fault : SectionFault) : Type 0 where
+  pub sections : List Section
+  pub at : ℕ
+  pub refused : IsRefusedBehind body begin sections at
+  pub place : fault.at ≡ begin + at
+  pub few : length sections ≤ index

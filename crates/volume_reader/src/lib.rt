@@ -7,6 +7,10 @@ mod header;
 pub mod laws;
 mod life;
 mod reading;
+mod section_of_file;
+mod section_walk;
 
 pub use mm_base::{File, Section, SectionFault, Volume, VolumeKind};
 pub use reading::{VolumeEnd, VolumeFault, read_volume};
+pub use section_of_file::sections;
+pub use section_walk::Sections;
