@@ -23,7 +23,7 @@ words_step xs place total h e =
     let there : suc (suc (2 * place)) ≡ 2 * (place + 1) = omega arith in
     let Q : ℕ → Type 0 = λ k. sum_of_words (drop (2 * place) xs) ≡ get_or xs (2 * place) 0 + 256 * get_or xs k 0 + sum_of_words (drop (suc (suc (2 * place))) xs) in
     let by_place : sum_of_words (drop (2 * place) xs) ≡ get_or xs (2 * place) 0 + 256 * get_or xs (2 * place + 1) 0 + sum_of_words (drop (2 * (place + 1)) xs)
-      = subst P there (subst Q (sym (add-one (2 * place))) more) in
+    = subst P there (subst Q (sym (add-one (2 * place))) more) in
     omega arith
 
 -- its end

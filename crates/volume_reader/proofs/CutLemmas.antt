@@ -93,16 +93,29 @@ passes_cut bytes cut none far within =
     let reaches : nat_le (header_length bytes) cut ≡ true = grind (arith, nat_tests, p.header) in
     let covers : nat_le (volume_length bytes) cut ≡ true = grind (arith, nat_tests) in
     let shape : (nat_le 64 (header_length bytes) && (header_length bytes % 2 == 0) && nat_le (header_length bytes) cut) ≡ true
-      = pass_other (nat_le 64 (header_length bytes)) (header_length bytes % 2 == 0) _ _ pass.1.1.0 reaches in
-    none_fails (checks (take cut bytes))
-      ( least
-      , (ap (λ (sig : List ℕ). bytes_eq sig (codes "_FVH")) (part bytes cut 40 4 (omega arith)) ∙ pass.1.0
-      , ((λ i. nat_le 64 (header i) && (header i % 2 == 0) && nat_le (header i) (long i)) ∙ shape
-      , ((λ i. sum_of_words (take (header i) (take cut bytes)) % 65536 == 0) ∙ ap (λ (xs : List ℕ). sum_of_words xs % 65536 == 0) front ∙ pass.1.1.1.0
-      , (ap (λ n. n == 2) (number bytes cut 55 1 (omega arith)) ∙ pass.1.1.1.1.0
-      , (ap (λ (guid : List ℕ). bytes_eq guid ffs2_guid || bytes_eq guid ffs3_guid) system ∙ pass.1.1.1.1.1.0
-      , ((λ i. nat_le (header i) (volume i) && nat_le (volume i) (long i)) ∙ pass_last (nat_le (header_length bytes) (volume_length bytes)) _ _ pass.1.1.1.1.1.1.0 covers
-      , (ext_same bytes cut none far fixed, tt))))))))
+    = pass_other (nat_le 64 (header_length bytes)) (header_length bytes % 2 == 0) _ _ pass.1.1.0 reaches in
+    none_fails (checks (take cut bytes)) (
+      least,
+      (
+        ap (λ (sig : List ℕ). bytes_eq sig (codes "_FVH")) (part bytes cut 40 4 (omega arith)) ∙ pass.1.0,
+        (
+          (λ i. nat_le 64 (header i) && (header i % 2 == 0) && nat_le (header i) (long i)) ∙ shape,
+          (
+            (λ i. sum_of_words (take (header i) (take cut bytes)) % 65536 == 0) ∙ ap (λ (xs : List ℕ). sum_of_words xs % 65536 == 0) front ∙ pass.1.1.1.0,
+            (
+              ap (λ n. n == 2) (number bytes cut 55 1 (omega arith)) ∙ pass.1.1.1.1.0,
+              (
+                ap (λ (guid : List ℕ). bytes_eq guid ffs2_guid || bytes_eq guid ffs3_guid) system ∙ pass.1.1.1.1.1.0,
+                (
+                  (λ i. nat_le (header i) (volume i) && nat_le (volume i) (long i)) ∙ pass_last (nat_le (header_length bytes) (volume_length bytes)) _ _ pass.1.1.1.1.1.1.0 covers,
+                  (ext_same bytes cut none far fixed, tt),
+                ),
+              ),
+            ),
+          ),
+        ),
+      ),
+    )
 
 pub same_past_end : (bytes : List ℕ) (cut : ℕ) (volume : Volume) → IsVolume bytes volume → volume_length bytes ≤ cut → cut ≤ length bytes → IsVolume (take cut bytes) volume
 same_past_end bytes cut volume is far within =
@@ -112,7 +125,7 @@ same_past_end bytes cut volume is far within =
     let system = ap (λ (guid : List ℕ). bytes_eq guid ffs3_guid) (part bytes cut 16 16 (omega arith)) in
     let ones : erases_to_ones (take cut bytes) ≡ erases_to_ones bytes = ap (λ n. has_bit n 0x800) (number bytes cut 44 4 (omega arith)) in
     let inside : take (volume_length (take cut bytes)) (take cut bytes) ≡ take (volume_length bytes) bytes
-      = ap (λ n. take n (take cut bytes)) long ∙ take_cut bytes (volume_length bytes) cut far in
+    = ap (λ n. take n (take cut bytes)) long ∙ take_cut bytes (volume_length bytes) cut far in
     let area : area_of (take cut bytes) ≡ area_of bytes = λ i. record { bytes = inside i; ffs3 = system i; ones = ones i } in
     let first = first_same bytes cut is.header far fixed in
     let P : Area → Type 0 = λ area. Leads area (first_place (take cut bytes)) is.spans is.end in

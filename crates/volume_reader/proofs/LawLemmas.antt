@@ -211,10 +211,12 @@ good_or_bad area at room = by_large (is_large area at) (has_room area at 32) ref
     by_size large summed true false fits unknown = inl (record { room = room; large = large; summed = summed; fits = fits; known = unknown })
     by_size large summed true true fits unknown = inr (FileSize, inr (refl, inl (record { large = large; summed = summed; size = rw (fits, unknown) })))
     by_size large summed false unknown fits is = inr (FileSize, inr (refl, inl (record { large = large; summed = summed; size = rw fits })))
+
     by_sum : (is_large area at ≡ true → has_room area at 32 ≡ true) → (summed : Bool) → header_sum_is_zero area at ≡ summed
         → HasHeader area at ⊎ ((kind : VolumeKind) × IsBadAt area at kind)
     by_sum large true is = by_size large is (size_fits area at) (says_large area at && not area.ffs3) refl refl
     by_sum large false is = inr (FileSum, inl (refl, record { large = large; sum = is }))
+
     by_large : (large left : Bool) → is_large area at ≡ large → has_room area at 32 ≡ left
         → HasHeader area at ⊎ ((kind : VolumeKind) × IsBadAt area at kind)
     by_large true true large left = by_sum (λ e. left) (header_sum_is_zero area at) refl
@@ -233,6 +235,7 @@ standing area at = by_room (has_room area at 24) refl
         → HasHeader area at ⊎ ((kind : VolumeKind) × IsBadAt area at kind) → Standing area at
     with_header span written stands (inl good) = Stands span (stands good)
     with_header span written stands (inr bad) = IsRefused bad.0 (written, bad.1)
+
     by_life : has_room area at 24 ≡ true → (life : Life) → life_at area at ≡ life → Standing area at
     by_life room Unwritten is = Ends (inr is)
     by_life room UnderConstruction is = Stands HeaderAlone (room, inl is)
@@ -245,6 +248,7 @@ standing area at = by_room (has_room area at 24) refl
         with_header Counts (record { room = room; written = λ e. cc; not_constructed = λ e. cc; not_invalid = λ e. cc }) (λ good. (good, inl is)) (good_or_bad area at room)
     by_life room BeingReplaced is =
         with_header Counts (record { room = room; written = λ e. cc; not_constructed = λ e. cc; not_invalid = λ e. cc }) (λ good. (good, inr is)) (good_or_bad area at room)
+
     by_room : (room : Bool) → has_room area at 24 ≡ room → Standing area at
     by_room true is = by_life is (life_at area at) refl
     by_room false is = Ends (inl is)
@@ -273,10 +277,13 @@ either bytes = by_header (first_failing bytes) refl
     by_course : first_failing bytes ≡ None → (course : Stopped (area_of bytes) (first_place bytes)) → StopsAt (area_of bytes) course.end
         → ((volume : Volume) × IsVolume bytes volume) ⊎ ((fault : VolumeFault) × HasFault bytes fault)
     by_course none course (inl ends) =
-        inl (record { length = volume_length bytes; ffs3 = is_ffs3 bytes; files = files_in (area_of bytes) (first_place bytes) course.spans },
-          record { header = none; length_is = refl; system = refl; spans = course.spans; end = course.end; leads = course.leads; ends = ends; files = refl })
+        inl (
+          record { length = volume_length bytes; ffs3 = is_ffs3 bytes; files = files_in (area_of bytes) (first_place bytes) course.spans },
+          record { header = none; length_is = refl; system = refl; spans = course.spans; end = course.end; leads = course.leads; ends = ends; files = refl },
+        )
     by_course none course (inr (kind, refused)) =
         inr (record { at = course.end; kind = kind }, inr (record { header = none; spans = course.spans; leads = course.leads; refused = refused }))
+
     by_header : (first : Option Check) → first_failing bytes ≡ first
         → ((volume : Volume) × IsVolume bytes volume) ⊎ ((fault : VolumeFault) × HasFault bytes fault)
     by_header (Some check) is = inr (record { at = check.at; kind = check.kind }, inl (record { check = check; first = is; at = refl; kind = refl }))

@@ -4,3 +4,4 @@ pub mod AreaLemmas
 pub mod WalkLemmas
 pub mod LawLemmas
 pub mod CutLemmas
+pub mod SectionLemmas

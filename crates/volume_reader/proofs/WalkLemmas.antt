@@ -43,8 +43,8 @@ walked_more area first files at next file walked found =
       spans = walked.spans ++ found.span ∷ [];
       leads = subst P (sym found.behind) (leads-more area first walked.spans at found.span walked.leads found.stands);
       are = ap (λ (all : List File). all ++ listed file) walked.are
-        ∙ ap (λ (more : List File). files_in area first walked.spans ++ more) found.files
-        ∙ sym (files_in-more area first walked.spans at found.span walked.leads);
+          ∙ ap (λ (more : List File). files_in area first walked.spans ++ more) found.files
+          ∙ sym (files_in-more area first walked.spans at found.span walked.leads);
     }
 
 -- a size that fits moves on, and within the volume

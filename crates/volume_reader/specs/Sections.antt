@@ -79,14 +79,14 @@ walk_of bytes file = record { body = body_of bytes file; begin = file.body_at; p
 abbrev pub given_next : Walk → Result (Option Section) SectionFault
 given_next walk =
     if nat_le (walk.place + 4) (length walk.body) then
-      (if has_section walk.body walk.place then Ok (Some (section_at walk.body walk.begin walk.place)) else Err (record { at = walk.begin + walk.place }))
+    (if has_section walk.body walk.place then Ok (Some (section_at walk.body walk.begin walk.place)) else Err (record { at = walk.begin + walk.place }))
     else Ok None
 
 -- the walk behind that: it has moved where a section was given, and is the same else
 abbrev pub walked_on : Walk → Walk
 walked_on walk =
     if nat_le (walk.place + 4) (length walk.body) && has_section walk.body walk.place then
-      record walk { place = section_behind walk.body walk.place }
+    record walk { place = section_behind walk.body walk.place }
     else walk
 
 -- A body has this section behind so many others.
