@@ -1,15 +1,13 @@
 -- What stands at a place of a volume.
-use Rattle.std.proofs.Common.{◌≡◌, ◌⊎◌, inl, inr, ℕ, ◌+◌, ◌%◌, ◌<◌, ◌≤◌, Bool, true, false, eqb, List, length, get_or, sum, refl, sym, ap, ◌∙◌, arith, rules, slice_set, slice_index_or, nat_eq, Option, Some, None}
+use Rattle.std.proofs.Common.{◌≡◌, ◌⊎◌, inl, inr, ℕ, ◌+◌, ◌%◌, ◌<◌, true, eqb, List, length, get_or, sum, ap, arith, rules}
 use Rattle.std.proofs.Math.ListN.{set}
 use Rattle.std.proofs.lemmas.List.{length-set, get_or-set_other}
 use Rattle.std.proofs.lemmas.List.Sums.{sum_by-set}
 use Rattle.std.proofs.lemmas.Bool.Decides.{nat_tests}
-use Rattle.mm_base.specs.declared.volume.VolumeKind.{VolumeKind}
-use Rattle.volume_reader.specs.FileHeader.{Area, has_room, life_at, file_at, header_sum_is_zero, header_size}
-use Rattle.volume_reader.specs.declared.life.Life.{Life}
-use Rattle.volume_reader.specs.declared.life.Life.TheVariants.{Unwritten, UnderConstruction, HeaderOnly, Valid, BeingReplaced, Deleted, HeaderInvalid}
-use Rattle.volume_reader.specs.VolumeGrammar.{IsWritten, Counts}
-use Rattle.volume_reader.specs.Finding.{Finds, FindsFile, FindsSpan, listed}
+use Rattle.volume_reader.specs.FileHeader.{Area, has_room, life_at}
+use Rattle.volume_reader.specs.declared.life.Life.TheVariants.{Valid, BeingReplaced}
+use Rattle.volume_reader.specs.VolumeGrammar.{Counts}
+use Rattle.volume_reader.specs.Finding.{Finds, FindsFile, listed}
 use Rattle.volume_reader.specs.declared.area.Found.{Found}
 use Rattle.volume_reader.specs.declared.area.Found.TheVariants.{End, Refused, Behind}
 

@@ -1,14 +1,14 @@
 -- What stands in front of a cut is the same in the bytes that are cut there.
-use Rattle.std.proofs.Common.{◌≡◌, ℕ, ◌+◌, ◌-◌, ◌%◌, ◌≤◌, ◌<◌, min, Bool, true, false, ◌&&◌, ◌||◌, ◌==◌, nat_le, List, length, take, drop, None, refl, sym, ap, ◌∙◌, subst, arith, rules, codes}
+use Rattle.std.proofs.Common.{◌≡◌, ℕ, ◌+◌, ◌-◌, ◌%◌, ◌≤◌, Bool, true, false, ◌&&◌, ◌||◌, ◌==◌, nat_le, List, length, take, drop, None, refl, sym, ap, ◌∙◌, subst, arith, rules, codes}
 use Rattle.std.specs.Str.{bytes_eq}
 use Rattle.std.proofs.lemmas.List.{drop-take, take-take, length-take-le}
 use Rattle.std.proofs.lemmas.Bool.Decides.{nat_tests}
 use Rattle.mm_base.specs.Numbers.{number_of}
 use Rattle.mm_base.specs.declared.volume.Volume.{Volume}
-use Rattle.volume_reader.specs.VolumeHeader.{checks, first_failing, number_at, header_length, volume_length, ext_header, ext_size, ext_header_fits, file_system, is_ffs3, ffs2_guid, ffs3_guid, sum_of_words, first_place, up_to_8, erases_to_ones, attributes, has_bit}
+use Rattle.volume_reader.specs.VolumeHeader.{checks, first_failing, number_at, header_length, volume_length, ext_header, ext_size, ext_header_fits, file_system, ffs2_guid, ffs3_guid, sum_of_words, first_place, up_to_8, erases_to_ones, has_bit}
 use Rattle.volume_reader.specs.FileHeader.{Area}
-use Rattle.volume_reader.specs.VolumeGrammar.{IsVolume, area_of, Span, Leads, EndsAt, files_in}
-use Rattle.volume_reader.proofs.HeaderLemmas.{AllPass, all_pass, none_fails, Passed, passed, ExtIn, ext_in}
+use Rattle.volume_reader.specs.VolumeGrammar.{IsVolume, area_of, Leads, EndsAt, files_in}
+use Rattle.volume_reader.proofs.HeaderLemmas.{all_pass, none_fails, passed, ext_in}
 
 -- a front of a front
 take_cut : (xs : List ℕ) (n cut : ℕ) → n ≤ cut → take n (take cut xs) ≡ take n xs

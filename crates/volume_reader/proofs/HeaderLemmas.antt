@@ -1,5 +1,5 @@
 -- What the checks of a volume header come to, one after another.
-use Rattle.std.proofs.Common.{Result, Ok, Err, IfErr, ◌≡◌, ℕ, zero, suc, get_or, take, tests, ◌+◌, ◌*◌, ◌/◌, ◌≤◌, ◌<◌, Bool, true, false, cond, ◌&&◌, ◌||◌, not, List, [], ◌∷◌, length, Option, Some, None, refl, sym, ap, ◌∙◌, subst, arith, rules, nat_le, ◌==◌, find}
+use Rattle.std.proofs.Common.{◌≡◌, ℕ, zero, suc, get_or, take, tests, ◌+◌, ◌≤◌, ◌<◌, Bool, true, false, not, List, [], ◌∷◌, length, Option, Some, None, refl, sym, ap, ◌∙◌, arith, rules, ◌==◌, find}
 use Rattle.std.proofs.lemmas.Bool.Decides.{nat_tests}
 use Rattle.mm_base.specs.declared.volume.VolumeKind.TheVariants.{Short}
 use Rattle.volume_reader.specs.VolumeHeader.{Check, checks, first_failing, header_length, volume_length, ext_header, ext_size, ext_header_fits, first_place, up_to_8}

@@ -1,5 +1,5 @@
 -- Each place of a volume has one thing standing there, and bytes are one volume or have one fault.
-use Rattle.std.proofs.Common.{◌≡◌, ◌⊎◌, inl, inr, ℕ, zero, suc, ◌+◌, ◌<◌, ◌≤◌, Bool, true, false, not, ◌&&◌, List, [], ◌∷◌, length, take, Option, Some, None, Result, Ok, Err, IfOk, IfErr, refl, sym, ap, ◌∙◌, subst, arith, rules}
+use Rattle.std.proofs.Common.{◌≡◌, ◌⊎◌, inl, inr, ℕ, zero, suc, ◌+◌, ◌<◌, ◌≤◌, Bool, true, false, not, ◌&&◌, List, [], ◌∷◌, length, take, Option, Some, None, Result, Ok, Err, IfOk, IfErr, refl, sym, ap, ◌∙◌, subst, arith}
 use Rattle.std.proofs.lemmas.Bool.Decides.{nat_tests}
 use Rattle.mm_base.specs.declared.volume.File.{File}
 use Rattle.mm_base.specs.declared.volume.Volume.{Volume}
@@ -12,7 +12,7 @@ use Rattle.volume_reader.specs.declared.reading.VolumeEnd.{VolumeEnd}
 use Rattle.volume_reader.specs.declared.reading.VolumeEnd.TheVariants.{Fault, NoMemory}
 use Rattle.volume_reader.specs.VolumeHeader.{Check, first_failing, first_place, volume_length, is_ffs3, erases_to_ones}
 use Rattle.volume_reader.specs.FileHeader.{Area, has_room, life_at, is_large, says_large, header_sum_is_zero, size_fits}
-use Rattle.volume_reader.specs.VolumeGrammar.{area_of, Span, HeaderAlone, Gone, Counts, EndsAt, HasHeader, StandsAt, Leads, place_behind, files_in, IsWritten, HasBadSum, HasBadSize, IsBadAt, IsRefusedAt, IsVolume, HasBadHeader, HasBadFile, HasFault}
+use Rattle.volume_reader.specs.VolumeGrammar.{area_of, Span, HeaderAlone, Gone, Counts, EndsAt, HasHeader, StandsAt, Leads, place_behind, files_in, IsWritten, IsBadAt, IsRefusedAt, IsVolume, HasFault}
 use Rattle.volume_reader.specs.Finding.{EndsBy, AreFiles}
 use Rattle.volume_reader.proofs.WalkLemmas.{moves_on}
 

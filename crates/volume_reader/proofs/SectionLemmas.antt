@@ -1,12 +1,12 @@
 -- The sections of a body, as a walk goes over them.
-use Rattle.std.proofs.Common.{◌≡◌, ◌⊎◌, inl, inr, ◌↔◌, ℕ, zero, suc, ◌+◌, ◌<◌, ◌≤◌, Bool, true, false, ◌&&◌, nat_le, List, [], ◌∷◌, ◌++◌, length, Option, Some, None, MatchOption, Result, Ok, Err, IfOk, IfErr, refl, sym, ap, ◌∙◌, subst, arith, rules, length-append}
+use Rattle.std.proofs.Common.{◌≡◌, ◌⊎◌, inl, inr, ◌↔◌, ℕ, zero, suc, ◌+◌, ◌<◌, ◌≤◌, Bool, true, false, ◌&&◌, nat_le, List, [], ◌∷◌, ◌++◌, length, Option, Some, None, MatchOption, Result, Ok, Err, IfOk, IfErr, refl, sym, ap, ◌∙◌, subst, arith, length-append}
 use Rattle.std.specs.List.{slice_get}
 use Rattle.std.specs.Option.{is_some}
 use Rattle.std.proofs.lemmas.Option.{slice_get_within}
 use Rattle.std.proofs.lemmas.Bool.{cases_lt}
 use Rattle.mm_base.specs.declared.volume.Section.{Section}
 use Rattle.mm_base.specs.declared.volume.SectionFault.{SectionFault}
-use Rattle.volume_reader.specs.Sections.{has_section, section_at, section_behind, SectionsLead, Reaches, AreSections, IsRefusedBehind, Walk, given_next, walked_on, HasSection, HasAtMost, HasSectionFault}
+use Rattle.volume_reader.specs.Sections.{has_section, section_at, section_behind, SectionsLead, AreSections, IsRefusedBehind, Walk, given_next, walked_on, HasSection, HasAtMost, HasSectionFault}
 
 -- ---- sections from one place are one course
 

@@ -1,13 +1,12 @@
 -- Spans one behind another, as a reader walks over them.
-use Rattle.std.proofs.Common.{◌≡◌, ◌⊎◌, inl, inr, ℕ, ◌+◌, ◌*◌, ◌/◌, ◌<◌, ◌≤◌, Bool, true, false, List, [], ◌∷◌, ◌++◌, length, refl, sym, ap, ◌∙◌, subst, append_assoc, arith, rules, Option, Some, None}
+use Rattle.std.proofs.Common.{◌≡◌, ℕ, ◌+◌, ◌<◌, ◌≤◌, List, [], ◌∷◌, ◌++◌, length, refl, sym, ap, ◌∙◌, subst, append_assoc, arith, Option}
 use Rattle.std.proofs.lemmas.List.{append-nil}
 use Rattle.std.proofs.lemmas.Bool.Decides.{nat_tests}
 use Rattle.mm_base.specs.declared.volume.File.{File}
 use Rattle.volume_reader.specs.VolumeHeader.{up_to_8}
-use Rattle.volume_reader.specs.FileHeader.{Area, has_room, size_at, header_size, is_large}
-use Rattle.volume_reader.specs.VolumeGrammar.{Span, HeaderAlone, Gone, Counts, StandsAt, Leads, place_behind, files_of, files_in, HasHeader, IsRefusedAt}
-use Rattle.volume_reader.specs.Finding.{FindsSpan, listed, AreFiles, HasFaultFrom}
-use Rattle.mm_base.specs.declared.volume.VolumeKind.{VolumeKind}
+use Rattle.volume_reader.specs.FileHeader.{Area, size_at}
+use Rattle.volume_reader.specs.VolumeGrammar.{Span, HeaderAlone, Gone, Counts, StandsAt, Leads, place_behind, files_of, files_in, HasHeader}
+use Rattle.volume_reader.specs.Finding.{FindsSpan, listed}
 
 -- one more span behind others
 pub leads-more : (area : Area) (at : ℕ) (spans : List Span) (to : ℕ) (span : Span) → Leads area at spans to → StandsAt area to span

@@ -1,5 +1,5 @@
 -- What is found at a place of a volume.
-use Rattle.std.specs.Prelude.{◌≡◌, ℕ, ◌+◌, Bool, true, false, if◌then◌else◌, List, [], ◌∷◌, Option, Some, None}
+use Rattle.std.specs.Prelude.{◌≡◌, ℕ, ◌+◌, Bool, if◌then◌else◌, List, [], ◌∷◌, Option, Some, None}
 use Rattle.mm_base.specs.declared.volume.File.{File}
 use Rattle.volume_reader.specs.VolumeHeader.{up_to_8}
 use Rattle.volume_reader.specs.FileHeader.{Area, size_at, file_at}

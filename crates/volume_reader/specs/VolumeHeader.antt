@@ -1,6 +1,6 @@
 -- The header of a firmware volume: EFI_FIRMWARE_VOLUME_HEADER of PI 1.8, volume 3. The order in which it is checked, and what is
 -- refused, are this project's own. All numbers stand with the lowest byte first.
-use Rattle.std.specs.Prelude.{ℕ, ◌+◌, ◌*◌, ◌/◌, ◌%◌, Bool, true, if◌then◌else◌, ◌==◌, ◌&&◌, ◌||◌, not, nat_le, bit_and, List, [], ◌∷◌, length, take, drop, codes, find, Option, option_map}
+use Rattle.std.specs.Prelude.{ℕ, ◌+◌, ◌*◌, ◌/◌, ◌%◌, Bool, if◌then◌else◌, ◌==◌, ◌&&◌, ◌||◌, not, nat_le, bit_and, List, [], ◌∷◌, length, take, drop, codes, find, Option}
 use Rattle.std.specs.Str.{bytes_eq}
 use Rattle.mm_base.specs.Numbers.{number_of}
 use Rattle.mm_base.specs.declared.volume.VolumeKind.{VolumeKind}

@@ -8,7 +8,11 @@ pub mod laws;
 mod life;
 mod reading;
 mod section_of_file;
+#[cfg(test)]
+mod section_tests;
 mod section_walk;
+#[cfg(test)]
+mod volume_tests;
 
 pub use mm_base::{File, Section, SectionFault, Volume, VolumeKind};
 pub use reading::{VolumeEnd, VolumeFault, read_volume};

@@ -1,4 +1,4 @@
-use Rattle.std.proofs.Common.{◌≡◌, ◌∙◌, eqb, sym, ap, lit<, rules}
+use Rattle.std.proofs.Common.{◌∙◌, eqb, sym, ap, lit<, rules}
 use Rattle.std.proofs.lemmas.Result.{IfErr-weaker}
 use Rattle.volume_reader.specs.VolumeGrammar.{HasBadHeader}
 use Rattle.volume_reader.proofs.HeaderLemmas.{fails}

@@ -1,4 +1,4 @@
-use Rattle.std.proofs.Common.{◌≡◌, ◌++◌, ◌∷◌, [], List, Option, Some, None, sym, ◌∙◌, subst, ap, rules}
+use Rattle.std.proofs.Common.{List, Option, sym, subst}
 use Rattle.std.proofs.lemmas.List.{append-nil}
 use Rattle.mm_base.specs.declared.volume.File.{File}
 use Rattle.volume_reader.specs.Finding.{FindsSpan}

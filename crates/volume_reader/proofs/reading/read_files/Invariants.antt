@@ -1,4 +1,4 @@
-use Rattle.std.proofs.Common.{◌≡◌, ◌≤◌, ◌+◌, ◌-◌, length}
+use Rattle.std.proofs.Common.{◌≤◌, ◌+◌, ◌-◌, length}
 use Rattle.volume_reader.proofs.WalkLemmas.{Walked}
 use Rattle.volume_reader.proofs.reading.read_files.Given as goal
 

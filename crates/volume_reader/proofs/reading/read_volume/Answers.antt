@@ -1,5 +1,4 @@
-use Rattle.std.proofs.Common.{ℕ, ◌≡◌, ◌≤◌, IfOk, IfErr, Ok, sym, ap, ◌∙◌, length, take, arith, rules}
-use Rattle.std.proofs.lemmas.List.{length-take}
+use Rattle.std.proofs.Common.{ℕ, IfOk, IfErr, Ok, ap, ◌∙◌, length, take, arith, rules}
 use Rattle.volume_reader.specs.VolumeGrammar.{IsVolume, HasFault}
 use Rattle.volume_reader.specs.Finding.{EndsBy}
 use Rattle.volume_reader.proofs.HeaderLemmas.{passed, first_near}

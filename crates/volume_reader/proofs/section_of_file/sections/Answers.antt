@@ -1,5 +1,4 @@
-use Rattle.std.proofs.Common.{◌≡◌, ◌≤◌, ◌+◌, Option, Some, None, Ok, Err, sym, ap, ◌∙◌, subst, arith, rules}
-use Rattle.mm_base.specs.declared.volume.Section.{Section}
+use Rattle.std.proofs.Common.{◌≡◌, ◌+◌, None, Ok, Err, sym, ap, ◌∙◌, subst, arith, rules}
 use Rattle.volume_reader.specs.Sections.{Walk, body_of, given_next}
 use Rattle.volume_reader.proofs.SectionLemmas.{Skipped, skipped_next, same_body, same_begin, answered_end, answered_none, answered_fault, some_exactly, none_exactly, fault_exactly}
 use Rattle.volume_reader.proofs.section_of_file.sections.Goals as goal
