@@ -1,0 +1,105 @@
+-- What the checks of a volume header come to, one after another.
+use Rattle.std.proofs.Common.{◌≡◌, ℕ, zero, suc, get_or, take, tests, ◌+◌, ◌≤◌, ◌<◌, Bool, true, false, not, List, [], ◌∷◌, length, Option, Some, None, refl, sym, ap, ◌∙◌, arith, rules, ◌==◌, find}
+use Rattle.std.proofs.lemmas.Bool.Decides.{nat_tests}
+use Rattle.mm_base.specs.declared.volume.VolumeKind.TheVariants.{Short}
+use Rattle.volume_reader.specs.VolumeHeader.{Check, checks, first_failing, header_length, volume_length, ext_header, ext_size, ext_header_fits, first_place, up_to_8}
+use Rattle.volume_reader.specs.VolumeGrammar.{HasBadHeader}
+use Rattle.volume_reader.specs.declared.reading.VolumeFault.{VolumeFault}
+
+-- the first of these checks that isn't passed
+abbrev pub first_of : List Check → Option Check
+first_of = find (λ check. not check.passes)
+
+-- a check that is passed is not the first that fails
+passes_on : (check : Check) (others : List Check) → check.passes ≡ true → first_of (check ∷ others) ≡ first_of others
+passes_on check others e = rw e
+
+-- one that isn't is
+stops_at : (check : Check) (others : List Check) → check.passes ≡ false → first_of (check ∷ others) ≡ Some check
+stops_at check others e = rw e
+
+-- each of these checks is passed
+abbrev pub AllPass : List Check → Type 0
+AllPass [] = Unit {0}
+AllPass (check ∷ others) = (check.passes ≡ true) × AllPass others
+
+-- a check that fails behind others that pass is the first that fails
+first_at : (all : List Check) (k : ℕ) (none : Check) → k < length all → AllPass (take k all) → (get_or all k none).passes ≡ false → first_of all ≡ Some (get_or all k none)
+first_at [] k none h pass e = absurd (omega arith)
+first_at (check ∷ others) zero none h pass e = stops_at check others e
+first_at (check ∷ others) (suc k) none h pass e = passes_on check others pass.0 ∙ first_at others k none (omega arith) pass.1 e
+
+-- the check at a place
+abbrev pub check_at : List ℕ → ℕ → Check
+check_at bytes k = get_or (checks bytes) k (record { kind = Short; at = 0; passes = true })
+
+-- the first check that fails is the header's fault
+pub fails : (bytes : List ℕ) (fault : VolumeFault) (k : ℕ) → k < 8 → AllPass (take k (checks bytes)) → (check_at bytes k).passes ≡ false
+    → fault ≡ record { at = (check_at bytes k).at; kind = (check_at bytes k).kind } → HasBadHeader bytes fault
+fails bytes fault k h pass e is = record {
+  check = check_at bytes k;
+  first = first_at (checks bytes) k (record { kind = Short; at = 0; passes = true }) h pass e;
+  at = ap (λ (f : VolumeFault). f.at) is;
+  kind = ap (λ (f : VolumeFault). f.kind) is;
+}
+
+-- where no check fails, each is passed
+passed_first : (check : Check) (others : List Check) (passes : Bool) → check.passes ≡ passes → first_of (check ∷ others) ≡ None → (check.passes ≡ true) × (first_of others ≡ None)
+passed_first check others true is none = (is, sym (passes_on check others is) ∙ none)
+passed_first check others false is none =
+    let e : Some check ≡ None = sym (stops_at check others is) ∙ none in
+    cc
+
+pub all_pass : (all : List Check) → first_of all ≡ None → AllPass all
+all_pass [] none = tt
+all_pass (check ∷ others) none =
+    let h = passed_first check others check.passes refl none in
+    (h.0, all_pass others h.1)
+
+-- and where each is passed, no check fails
+pub none_fails : (all : List Check) → AllPass all → first_of all ≡ None
+none_fails [] pass = refl
+none_fails (check ∷ others) pass = passes_on check others pass.0 ∙ none_fails others pass.1
+
+-- what a header that passes all checks says of its lengths
+pub record Passed (bytes : List ℕ) : Type 0 where
+  pub fixed : 64 ≤ length bytes
+  pub least : 64 ≤ header_length bytes
+  pub header : header_length bytes ≤ volume_length bytes
+  pub within : volume_length bytes ≤ length bytes
+  pub ext : ext_header_fits bytes ≡ true
+
+pub passed : (bytes : List ℕ) → first_failing bytes ≡ None → Passed bytes
+passed bytes none =
+    let pass : AllPass (checks bytes) = all_pass (checks bytes) none in
+    record {
+      fixed = search (rules, tests);
+      least = search (rules, tests);
+      header = search (rules, tests);
+      within = search (rules, tests);
+      ext = pass.1.1.1.1.1.1.1.0;
+    }
+
+-- so does what stands behind the extended header's offset
+pub record ExtIn (bytes : List ℕ) : Type 0 where
+  pub room : ext_header bytes + 20 ≤ volume_length bytes
+  pub fits : ext_header bytes + ext_size bytes ≤ volume_length bytes
+
+pub ext_in : (bytes : List ℕ) → first_failing bytes ≡ None → (ext_header bytes ≡ 0 → ⊥) → ExtIn bytes
+ext_in bytes none there =
+    let fits = (passed bytes none).ext in
+    record { room = grind (arith, nat_tests); fits = grind (arith, nat_tests) }
+
+-- the first file stands in the volume, or up to 7 bytes behind it
+pub first_near : (bytes : List ℕ) → first_failing bytes ≡ None → first_place bytes ≤ volume_length bytes + 7
+first_near bytes none = near (ext_header bytes == 0) refl
+  where
+    near : (absent : Bool) → (ext_header bytes == 0) ≡ absent → first_place bytes ≤ volume_length bytes + 7
+    near true is =
+        let p = passed bytes none in
+        let e : first_place bytes ≡ up_to_8 (header_length bytes) = rw is in
+        omega (arith, p.header)
+    near false is =
+        let q = ext_in bytes none (λ zero. grind (arith, nat_tests)) in
+        let e : first_place bytes ≡ up_to_8 (ext_header bytes + ext_size bytes) = rw is in
+        omega (arith, q.fits)

@@ -1,0 +1,292 @@
+-- Each place of a volume has one thing standing there, and bytes are one volume or have one fault.
+use Rattle.std.proofs.Common.{◌≡◌, ◌⊎◌, inl, inr, ℕ, zero, suc, ◌+◌, ◌<◌, ◌≤◌, Bool, true, false, not, ◌&&◌, List, [], ◌∷◌, length, take, Option, Some, None, Result, Ok, Err, IfOk, IfErr, refl, sym, ap, ◌∙◌, subst, arith}
+use Rattle.std.proofs.lemmas.Bool.Decides.{nat_tests}
+use Rattle.mm_base.specs.declared.volume.File.{File}
+use Rattle.mm_base.specs.declared.volume.Volume.{Volume}
+use Rattle.mm_base.specs.declared.volume.VolumeKind.{VolumeKind}
+use Rattle.mm_base.specs.declared.volume.VolumeKind.TheVariants.{FileSum, FileSize}
+use Rattle.volume_reader.specs.declared.life.Life.{Life}
+use Rattle.volume_reader.specs.declared.life.Life.TheVariants.{Unwritten, UnderConstruction, HeaderOnly, Valid, BeingReplaced, Deleted, HeaderInvalid}
+use Rattle.volume_reader.specs.declared.reading.VolumeFault.{VolumeFault}
+use Rattle.volume_reader.specs.declared.reading.VolumeEnd.{VolumeEnd}
+use Rattle.volume_reader.specs.declared.reading.VolumeEnd.TheVariants.{Fault, NoMemory}
+use Rattle.volume_reader.specs.VolumeHeader.{Check, first_failing, first_place, volume_length, is_ffs3, erases_to_ones}
+use Rattle.volume_reader.specs.FileHeader.{Area, has_room, life_at, is_large, says_large, header_sum_is_zero, size_fits}
+use Rattle.volume_reader.specs.VolumeGrammar.{area_of, Span, HeaderAlone, Gone, Counts, EndsAt, HasHeader, StandsAt, Leads, place_behind, files_in, IsWritten, IsBadAt, IsRefusedAt, IsVolume, HasFault}
+use Rattle.volume_reader.specs.Finding.{EndsBy, AreFiles}
+use Rattle.volume_reader.proofs.WalkLemmas.{moves_on}
+
+-- ---- one thing at each place
+
+-- a header that is as it should be is not refused
+bad_header_or_good : (area : Area) (at : ℕ) (kind : VolumeKind) → HasHeader area at → IsBadAt area at kind → ⊥
+bad_header_or_good area at kind good (inl bad) =
+    let zero_sum = good.summed in
+    let no_sum = bad.1.sum in
+    let e : true ≡ false = cc in
+    cc
+bad_header_or_good area at kind good (inr (is, inl bad)) =
+    let fits = good.fits in
+    let known = good.known in
+    let size = bad.size in
+    let e : true ≡ false = sym (rw (fits, known)) ∙ size in
+    cc
+bad_header_or_good area at kind good (inr (is, inr bad)) =
+    let room = good.large bad.0 in
+    let none = bad.1 in
+    let e : true ≡ false = cc in
+    cc
+
+ends_or_stands : (area : Area) (at : ℕ) (span : Span) → EndsAt area at → StandsAt area at span → ⊥
+ends_or_stands area at HeaderAlone (inl none) (room, life) = let e : true ≡ false = cc in cc
+ends_or_stands area at HeaderAlone (inr none) (room, inl life) = let e : Unwritten ≡ UnderConstruction = cc in cc
+ends_or_stands area at HeaderAlone (inr none) (room, inr life) = let e : Unwritten ≡ HeaderInvalid = cc in cc
+ends_or_stands area at Gone (inl none) (header, life) = let room = header.room in let e : true ≡ false = cc in cc
+ends_or_stands area at Gone (inr none) (header, inl life) = let e : Unwritten ≡ HeaderOnly = cc in cc
+ends_or_stands area at Gone (inr none) (header, inr life) = let e : Unwritten ≡ Deleted = cc in cc
+ends_or_stands area at Counts (inl none) (header, life) = let room = header.room in let e : true ≡ false = cc in cc
+ends_or_stands area at Counts (inr none) (header, inl life) = let e : Unwritten ≡ Valid = cc in cc
+ends_or_stands area at Counts (inr none) (header, inr life) = let e : Unwritten ≡ BeingReplaced = cc in cc
+
+refused_or_stands : (area : Area) (at : ℕ) (kind : VolumeKind) (span : Span) → IsRefusedAt area at kind → StandsAt area at span → ⊥
+refused_or_stands area at kind HeaderAlone (written, bad) (room, inl life) = written.not_constructed life
+refused_or_stands area at kind HeaderAlone (written, bad) (room, inr life) = written.not_invalid life
+refused_or_stands area at kind Gone (written, bad) (header, life) = bad_header_or_good area at kind header bad
+refused_or_stands area at kind Counts (written, bad) (header, life) = bad_header_or_good area at kind header bad
+
+ends_or_refused : (area : Area) (at : ℕ) (kind : VolumeKind) → EndsAt area at → IsRefusedAt area at kind → ⊥
+ends_or_refused area at kind (inl none) (written, bad) = let room = written.room in let e : true ≡ false = cc in cc
+ends_or_refused area at kind (inr none) (written, bad) = written.written none
+
+-- the span that stands at a place with this life
+one_span : (area : Area) (at : ℕ) (one other : Span) → StandsAt area at one → StandsAt area at other → one ≡ other
+one_span area at HeaderAlone HeaderAlone a b = refl
+one_span area at Gone Gone a b = refl
+one_span area at Counts Counts a b = refl
+one_span area at HeaderAlone Gone (room, inl a) (header, inl b) = let e : UnderConstruction ≡ HeaderOnly = cc in cc
+one_span area at HeaderAlone Gone (room, inl a) (header, inr b) = let e : UnderConstruction ≡ Deleted = cc in cc
+one_span area at HeaderAlone Gone (room, inr a) (header, inl b) = let e : HeaderInvalid ≡ HeaderOnly = cc in cc
+one_span area at HeaderAlone Gone (room, inr a) (header, inr b) = let e : HeaderInvalid ≡ Deleted = cc in cc
+one_span area at HeaderAlone Counts (room, inl a) (header, inl b) = let e : UnderConstruction ≡ Valid = cc in cc
+one_span area at HeaderAlone Counts (room, inl a) (header, inr b) = let e : UnderConstruction ≡ BeingReplaced = cc in cc
+one_span area at HeaderAlone Counts (room, inr a) (header, inl b) = let e : HeaderInvalid ≡ Valid = cc in cc
+one_span area at HeaderAlone Counts (room, inr a) (header, inr b) = let e : HeaderInvalid ≡ BeingReplaced = cc in cc
+one_span area at Gone HeaderAlone (header, inl a) (room, inl b) = let e : HeaderOnly ≡ UnderConstruction = cc in cc
+one_span area at Gone HeaderAlone (header, inl a) (room, inr b) = let e : HeaderOnly ≡ HeaderInvalid = cc in cc
+one_span area at Gone HeaderAlone (header, inr a) (room, inl b) = let e : Deleted ≡ UnderConstruction = cc in cc
+one_span area at Gone HeaderAlone (header, inr a) (room, inr b) = let e : Deleted ≡ HeaderInvalid = cc in cc
+one_span area at Gone Counts (header, inl a) (more, inl b) = let e : HeaderOnly ≡ Valid = cc in cc
+one_span area at Gone Counts (header, inl a) (more, inr b) = let e : HeaderOnly ≡ BeingReplaced = cc in cc
+one_span area at Gone Counts (header, inr a) (more, inl b) = let e : Deleted ≡ Valid = cc in cc
+one_span area at Gone Counts (header, inr a) (more, inr b) = let e : Deleted ≡ BeingReplaced = cc in cc
+one_span area at Counts HeaderAlone (header, inl a) (room, inl b) = let e : Valid ≡ UnderConstruction = cc in cc
+one_span area at Counts HeaderAlone (header, inl a) (room, inr b) = let e : Valid ≡ HeaderInvalid = cc in cc
+one_span area at Counts HeaderAlone (header, inr a) (room, inl b) = let e : BeingReplaced ≡ UnderConstruction = cc in cc
+one_span area at Counts HeaderAlone (header, inr a) (room, inr b) = let e : BeingReplaced ≡ HeaderInvalid = cc in cc
+one_span area at Counts Gone (header, inl a) (more, inl b) = let e : Valid ≡ HeaderOnly = cc in cc
+one_span area at Counts Gone (header, inl a) (more, inr b) = let e : Valid ≡ Deleted = cc in cc
+one_span area at Counts Gone (header, inr a) (more, inl b) = let e : BeingReplaced ≡ HeaderOnly = cc in cc
+one_span area at Counts Gone (header, inr a) (more, inr b) = let e : BeingReplaced ≡ Deleted = cc in cc
+
+-- what a place is refused for
+one_kind : (area : Area) (at : ℕ) (one other : VolumeKind) → IsBadAt area at one → IsBadAt area at other → one ≡ other
+one_kind area at one other (inl a) (inl b) = a.0 ∙ sym b.0
+one_kind area at one other (inr a) (inr b) = a.0 ∙ sym b.0
+one_kind area at one other (inl a) (inr (is, inl b)) = let x = a.1.sum in let y = b.summed in let e : true ≡ false = cc in cc
+one_kind area at one other (inl a) (inr (is, inr b)) = let x = a.1.large b.0 in let y = b.1 in let e : true ≡ false = cc in cc
+one_kind area at one other (inr (is, inl b)) (inl a) = let x = a.1.sum in let y = b.summed in let e : true ≡ false = cc in cc
+one_kind area at one other (inr (is, inr b)) (inl a) = let x = a.1.large b.0 in let y = b.1 in let e : true ≡ false = cc in cc
+
+-- ---- one course of spans
+
+-- Here spans end: files do, or a header is refused.
+abbrev StopsAt : Area → ℕ → Type 0
+StopsAt area at = EndsAt area at ⊎ ((kind : VolumeKind) × IsRefusedAt area at kind)
+
+stops_or_stands : (area : Area) (at : ℕ) (span : Span) → StopsAt area at → StandsAt area at span → ⊥
+stops_or_stands area at span (inl ends) stands = ends_or_stands area at span ends stands
+stops_or_stands area at span (inr (kind, refused)) stands = refused_or_stands area at kind span refused stands
+
+record Same (some others : List Span) (one other : ℕ) : Type 0 where
+  pub spans : some ≡ others
+  pub ends : one ≡ other
+
+one_course : (area : Area) (at : ℕ) (some others : List Span) (one other : ℕ) → Leads area at some one → StopsAt area one
+    → Leads area at others other → StopsAt area other → Same some others one other
+one_course area at [] [] one other a stop b halt = record { spans = refl; ends = sym a ∙ b }
+one_course area at [] (span ∷ others) one other a stop b halt =
+    let P : ℕ → Type 0 = λ place. StopsAt area place in
+    absurd (stops_or_stands area at span (subst P (sym a) stop) b.0)
+one_course area at (span ∷ some) [] one other a stop b halt =
+    let P : ℕ → Type 0 = λ place. StopsAt area place in
+    absurd (stops_or_stands area at span (subst P (sym b) halt) a.0)
+one_course area at (span ∷ some) (more ∷ others) one other a stop b halt =
+    let same = one_span area at span more a.0 b.0 in
+    let P : Span → Type 0 = λ s. Leads area (place_behind area at s) others other in
+    let rest = one_course area (place_behind area at span) some others one other a.1 stop (subst P (sym same) b.1) halt in
+    record { spans = λ i. same i ∷ rest.spans i; ends = rest.ends }
+
+-- ---- bytes are one volume, or have one fault
+
+pub one_volume : (bytes : List ℕ) (one other : Volume) → IsVolume bytes one → IsVolume bytes other → one ≡ other
+one_volume bytes one other a b =
+    let same = one_course (area_of bytes) (first_place bytes) a.spans b.spans a.end b.end a.leads (inl a.ends) b.leads (inl b.ends) in
+    let lengths : one.length ≡ other.length = a.length_is ∙ sym b.length_is in
+    let systems : one.ffs3 ≡ other.ffs3 = a.system ∙ sym b.system in
+    let files : one.files ≡ other.files = a.files ∙ ap (files_in (area_of bytes) (first_place bytes)) same.spans ∙ sym b.files in
+    λ i. record { length = lengths i; ffs3 = systems i; files = files i }
+
+pub never_both : (bytes : List ℕ) (volume : Volume) (fault : VolumeFault) → IsVolume bytes volume → HasFault bytes fault → ⊥
+never_both bytes volume fault is (inl bad) =
+    let first = bad.first in
+    let none = is.header in
+    let e : Some bad.check ≡ None = cc in
+    cc
+never_both bytes volume fault is (inr bad) =
+    let same = one_course (area_of bytes) (first_place bytes) is.spans bad.spans is.end fault.at is.leads (inl is.ends) bad.leads (inr (fault.kind, bad.refused)) in
+    let P : ℕ → Type 0 = λ place. EndsAt (area_of bytes) place in
+    ends_or_refused (area_of bytes) fault.at fault.kind (subst P same.ends is.ends) bad.refused
+
+pub one_fault : (bytes : List ℕ) (one other : VolumeFault) → HasFault bytes one → HasFault bytes other → one ≡ other
+one_fault bytes one other (inl a) (inl b) =
+    let e : Some a.check ≡ Some b.check = sym a.first ∙ b.first in
+    let same : a.check ≡ b.check = cc in
+    let places : one.at ≡ other.at = a.at ∙ ap (λ (check : Check). check.at) same ∙ sym b.at in
+    let kinds : one.kind ≡ other.kind = a.kind ∙ ap (λ (check : Check). check.kind) same ∙ sym b.kind in
+    λ i. record { at = places i; kind = kinds i }
+one_fault bytes one other (inl a) (inr b) = let e : Some a.check ≡ None = sym a.first ∙ b.header in cc
+one_fault bytes one other (inr a) (inl b) = let e : Some b.check ≡ None = sym b.first ∙ a.header in cc
+one_fault bytes one other (inr a) (inr b) =
+    let area = area_of bytes in
+    let same = one_course area (first_place bytes) a.spans b.spans one.at other.at a.leads (inr (one.kind, a.refused)) b.leads (inr (other.kind, b.refused)) in
+    let P : ℕ → Type 0 = λ place. IsBadAt area place one.kind in
+    let kinds = one_kind area other.at one.kind other.kind (subst P same.ends a.refused.1) b.refused.1 in
+    λ i. record { at = same.ends i; kind = kinds i }
+
+-- what a reader answers is the volume, or the fault, that the bytes are
+pub told_found : (bytes : List ℕ) (result : Result Volume VolumeEnd) → IfOk result (IsVolume bytes) → IfErr result (EndsBy (HasFault bytes))
+    → (volume : Volume) → IsVolume bytes volume → (result ≡ Ok volume) ⊎ (result ≡ Err NoMemory)
+told_found bytes (Ok other) ok err volume is = inl (ap Ok (one_volume bytes other volume ok is))
+told_found bytes (Err (Fault fault)) ok err volume is = absurd (never_both bytes volume fault is err)
+told_found bytes (Err NoMemory) ok err volume is = inr refl
+
+pub told_first : (bytes : List ℕ) (result : Result Volume VolumeEnd) → IfOk result (IsVolume bytes) → IfErr result (EndsBy (HasFault bytes))
+    → (fault : VolumeFault) → HasFault bytes fault → (result ≡ Err (Fault fault)) ⊎ (result ≡ Err NoMemory)
+told_first bytes (Ok volume) ok err fault is = absurd (never_both bytes volume fault ok is)
+told_first bytes (Err (Fault other)) ok err fault is = inl (ap (λ f. Err (Fault f)) (one_fault bytes other fault err is))
+told_first bytes (Err NoMemory) ok err fault is = inr refl
+
+-- ---- what a header tells, and the files behind it, are a volume
+
+pub is_volume : (bytes inside : List ℕ) (ffs3 ones : Bool) (first : ℕ) (files : List File)
+    → first_failing bytes ≡ None → inside ≡ take (volume_length bytes) bytes → length inside ≡ volume_length bytes
+    → ffs3 ≡ is_ffs3 bytes → ones ≡ erases_to_ones bytes → first ≡ first_place bytes
+    → AreFiles (record { bytes = inside; ffs3 = ffs3; ones = ones }) first files
+    → IsVolume bytes (record { length = length inside; ffs3 = ffs3; files = files })
+is_volume bytes inside ffs3 ones first files none is long system polarity place files_are =
+    let area : record { bytes = inside; ffs3 = ffs3; ones = ones } ≡ area_of bytes = λ i. record { bytes = is i; ffs3 = system i; ones = polarity i } in
+    let P : Area → Type 0 = λ area. AreFiles area first files in
+    let Q : ℕ → Type 0 = λ first. AreFiles (area_of bytes) first files in
+    let there = subst Q place (subst P area files_are) in
+    record {
+      header = none;
+      length_is = long;
+      system = system;
+      spans = there.spans;
+      end = there.end;
+      leads = there.leads;
+      ends = there.ends;
+      files = there.are;
+    }
+
+-- ---- each place has something standing there
+
+-- whether a header is refused
+good_or_bad : (area : Area) (at : ℕ) → has_room area at 24 ≡ true → HasHeader area at ⊎ ((kind : VolumeKind) × IsBadAt area at kind)
+good_or_bad area at room = by_large (is_large area at) (has_room area at 32) refl refl
+  where
+    by_size : (is_large area at ≡ true → has_room area at 32 ≡ true) → header_sum_is_zero area at ≡ true
+        → (fits unknown : Bool) → size_fits area at ≡ fits → (says_large area at && not area.ffs3) ≡ unknown
+        → HasHeader area at ⊎ ((kind : VolumeKind) × IsBadAt area at kind)
+    by_size large summed true false fits unknown = inl (record { room = room; large = large; summed = summed; fits = fits; known = unknown })
+    by_size large summed true true fits unknown = inr (FileSize, inr (refl, inl (record { large = large; summed = summed; size = rw (fits, unknown) })))
+    by_size large summed false unknown fits is = inr (FileSize, inr (refl, inl (record { large = large; summed = summed; size = rw fits })))
+
+    by_sum : (is_large area at ≡ true → has_room area at 32 ≡ true) → (summed : Bool) → header_sum_is_zero area at ≡ summed
+        → HasHeader area at ⊎ ((kind : VolumeKind) × IsBadAt area at kind)
+    by_sum large true is = by_size large is (size_fits area at) (says_large area at && not area.ffs3) refl refl
+    by_sum large false is = inr (FileSum, inl (refl, record { large = large; sum = is }))
+
+    by_large : (large left : Bool) → is_large area at ≡ large → has_room area at 32 ≡ left
+        → HasHeader area at ⊎ ((kind : VolumeKind) × IsBadAt area at kind)
+    by_large true true large left = by_sum (λ e. left) (header_sum_is_zero area at) refl
+    by_large true false large left = inr (FileSize, inr (refl, inr (large, left)))
+    by_large false left large is = by_sum (λ e. let wrong : true ≡ false = sym e ∙ large in cc) (header_sum_is_zero area at) refl
+
+data Standing (area : Area) (at : ℕ) : Type 0 where
+  Ends : EndsAt area at → Standing area at
+  IsRefused : (kind : VolumeKind) → IsRefusedAt area at kind → Standing area at
+  Stands : (span : Span) → StandsAt area at span → Standing area at
+
+standing : (area : Area) (at : ℕ) → Standing area at
+standing area at = by_room (has_room area at 24) refl
+  where
+    with_header : (span : Span) → IsWritten area at → (HasHeader area at → StandsAt area at span)
+        → HasHeader area at ⊎ ((kind : VolumeKind) × IsBadAt area at kind) → Standing area at
+    with_header span written stands (inl good) = Stands span (stands good)
+    with_header span written stands (inr bad) = IsRefused bad.0 (written, bad.1)
+
+    by_life : has_room area at 24 ≡ true → (life : Life) → life_at area at ≡ life → Standing area at
+    by_life room Unwritten is = Ends (inr is)
+    by_life room UnderConstruction is = Stands HeaderAlone (room, inl is)
+    by_life room HeaderInvalid is = Stands HeaderAlone (room, inr is)
+    by_life room HeaderOnly is =
+        with_header Gone (record { room = room; written = λ e. cc; not_constructed = λ e. cc; not_invalid = λ e. cc }) (λ good. (good, inl is)) (good_or_bad area at room)
+    by_life room Deleted is =
+        with_header Gone (record { room = room; written = λ e. cc; not_constructed = λ e. cc; not_invalid = λ e. cc }) (λ good. (good, inr is)) (good_or_bad area at room)
+    by_life room Valid is =
+        with_header Counts (record { room = room; written = λ e. cc; not_constructed = λ e. cc; not_invalid = λ e. cc }) (λ good. (good, inl is)) (good_or_bad area at room)
+    by_life room BeingReplaced is =
+        with_header Counts (record { room = room; written = λ e. cc; not_constructed = λ e. cc; not_invalid = λ e. cc }) (λ good. (good, inr is)) (good_or_bad area at room)
+
+    by_room : (room : Bool) → has_room area at 24 ≡ room → Standing area at
+    by_room true is = by_life is (life_at area at) refl
+    by_room false is = Ends (inl is)
+
+-- where spans lead to
+record Stopped (area : Area) (at : ℕ) : Type 0 where
+  pub spans : List Span
+  pub end : ℕ
+  pub leads : Leads area at spans end
+  pub stops : StopsAt area end
+
+stopped_from : (area : Area) (at : ℕ) → Standing area at → ((place : ℕ) → at < place → Stopped area place) → Stopped area at
+stopped_from area at (Ends ends) rest = record { spans = []; end = at; leads = refl; stops = inl ends }
+stopped_from area at (IsRefused kind refused) rest = record { spans = []; end = at; leads = refl; stops = inr (kind, refused) }
+stopped_from area at (Stands span stands) rest =
+    let more = rest (place_behind area at span) (moves_on area at span stands).0 in
+    record { spans = span ∷ more.spans; end = more.end; leads = (stands, more.leads); stops = more.stops }
+
+stopped : (fuel : ℕ) (area : Area) (at : ℕ) → length area.bytes + 8 ≤ at + fuel → Stopped area at
+stopped zero area at far = record { spans = []; end = at; leads = refl; stops = inl (inl (grind (arith, nat_tests))) }
+stopped (suc fuel) area at near = stopped_from area at (standing area at) (λ place behind. stopped fuel area place (omega arith))
+
+pub either : (bytes : List ℕ) → ((volume : Volume) × IsVolume bytes volume) ⊎ ((fault : VolumeFault) × HasFault bytes fault)
+either bytes = by_header (first_failing bytes) refl
+  where
+    by_course : first_failing bytes ≡ None → (course : Stopped (area_of bytes) (first_place bytes)) → StopsAt (area_of bytes) course.end
+        → ((volume : Volume) × IsVolume bytes volume) ⊎ ((fault : VolumeFault) × HasFault bytes fault)
+    by_course none course (inl ends) =
+        inl (
+          record { length = volume_length bytes; ffs3 = is_ffs3 bytes; files = files_in (area_of bytes) (first_place bytes) course.spans },
+          record { header = none; length_is = refl; system = refl; spans = course.spans; end = course.end; leads = course.leads; ends = ends; files = refl },
+        )
+    by_course none course (inr (kind, refused)) =
+        inr (record { at = course.end; kind = kind }, inr (record { header = none; spans = course.spans; leads = course.leads; refused = refused }))
+
+    by_header : (first : Option Check) → first_failing bytes ≡ first
+        → ((volume : Volume) × IsVolume bytes volume) ⊎ ((fault : VolumeFault) × HasFault bytes fault)
+    by_header (Some check) is = inr (record { at = check.at; kind = check.kind }, inl (record { check = check; first = is; at = refl; kind = refl }))
+    by_header None is =
+        let course = stopped (length (area_of bytes).bytes + 8) (area_of bytes) (first_place bytes) (omega arith) in
+        by_course is course course.stops

@@ -1,0 +1,6 @@
+pub mod FileHeader
+pub mod Finding
+pub mod Sections
+pub mod VolumeGrammar
+pub mod VolumeHeader
+pub mod VolumeLaws

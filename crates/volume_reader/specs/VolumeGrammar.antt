@@ -1,0 +1,118 @@
+-- The grammar of volumes: a header that passes its checks, and spans from the first place on, up to the place where files end.
+use Rattle.std.specs.Prelude.{◌≡◌, ◌⊎◌, ℕ, ◌+◌, true, false, ◌&&◌, not, List, [], ◌∷◌, ◌++◌, take, Some, None}
+use Rattle.mm_base.specs.declared.volume.File.{File}
+use Rattle.mm_base.specs.declared.volume.Volume.{Volume}
+use Rattle.mm_base.specs.declared.volume.VolumeKind.{VolumeKind}
+use Rattle.mm_base.specs.declared.volume.VolumeKind.TheVariants.{FileSum, FileSize}
+use Rattle.volume_reader.specs.VolumeHeader.{Check, volume_length, is_ffs3, first_failing, first_place, erases_to_ones, up_to_8}
+use Rattle.volume_reader.specs.FileHeader.{Area, life_at, says_large, is_large, size_at, has_room, header_sum_is_zero, size_fits, file_at}
+use Rattle.volume_reader.specs.declared.life.Life.TheVariants.{Unwritten, UnderConstruction, HeaderOnly, Valid, BeingReplaced, Deleted, HeaderInvalid}
+use Rattle.volume_reader.specs.declared.reading.VolumeFault.{VolumeFault}
+
+-- what files are read in, for these bytes of a volume
+abbrev pub area_of : List ℕ → Area
+area_of bytes = record { bytes = take (volume_length bytes) bytes; ffs3 = is_ffs3 bytes; ones = erases_to_ones bytes }
+
+-- Where files end: fewer bytes than a header are left, or nothing was written there.
+abbrev pub EndsAt : Area → ℕ → Type 0
+EndsAt area at = (has_room area at 24 ≡ false) ⊎ (life_at area at ≡ Unwritten)
+
+-- what spans a part of a volume: a header alone, of which nothing more is read; a file that is gone, or not yet there; or a file
+-- that counts
+pub data Span : Type 0 where
+  HeaderAlone : Span
+  Gone : Span
+  Counts : Span
+
+-- a header at this place is as its sum and its size ask for
+pub record HasHeader (area : Area) (at : ℕ) : Type 0 where
+  pub room : has_room area at 24 ≡ true
+  pub large : is_large area at ≡ true → has_room area at 32 ≡ true
+  pub summed : header_sum_is_zero area at ≡ true
+  pub fits : size_fits area at ≡ true
+  pub known : (says_large area at && not area.ffs3) ≡ false
+
+-- A span stands at a place.
+abbrev pub StandsAt : Area → ℕ → Span → Type 0
+StandsAt area at HeaderAlone =
+    (has_room area at 24 ≡ true) × ((life_at area at ≡ UnderConstruction) ⊎ (life_at area at ≡ HeaderInvalid))
+StandsAt area at Gone = HasHeader area at × ((life_at area at ≡ HeaderOnly) ⊎ (life_at area at ≡ Deleted))
+StandsAt area at Counts = HasHeader area at × ((life_at area at ≡ Valid) ⊎ (life_at area at ≡ BeingReplaced))
+
+-- the place behind a span: files are padded to a multiple of 8
+abbrev pub place_behind : Area → ℕ → Span → ℕ
+place_behind area at HeaderAlone = at + 24
+place_behind area at Gone = up_to_8 (at + size_at area at)
+place_behind area at Counts = up_to_8 (at + size_at area at)
+
+-- Spans stand one behind another from a place on, and lead to another one.
+abbrev pub Leads : Area → ℕ → List Span → ℕ → Type 0
+Leads area at [] to = at ≡ to
+Leads area at (span ∷ spans) to = StandsAt area at span × Leads area (place_behind area at span) spans to
+
+-- the file of a span that counts
+abbrev pub files_of : Area → ℕ → Span → List File
+files_of area at HeaderAlone = []
+files_of area at Gone = []
+files_of area at Counts = file_at area at ∷ []
+
+-- the files of spans
+abbrev pub files_in : Area → ℕ → List Span → List File
+files_in area at [] = []
+files_in area at (span ∷ spans) = files_of area at span ++ files_in area (place_behind area at span) spans
+
+-- A volume: its header passes all checks, and spans lead from the first place to one where files end; its files are those that
+-- count, in order.
+pub record IsVolume (bytes : List ℕ) (volume : Volume) : Type 0 where
+  pub header : first_failing bytes ≡ None
+  pub length_is : volume.length ≡ volume_length bytes
+  pub system : volume.ffs3 ≡ is_ffs3 bytes
+  pub spans : List Span
+  pub end : ℕ
+  pub leads : Leads (area_of bytes) (first_place bytes) spans end
+  pub ends : EndsAt (area_of bytes) end
+  pub files : volume.files ≡ files_in (area_of bytes) (first_place bytes) spans
+
+-- There is a header at this place that is not one alone, and it is refused: for its sum; or for its size, which goes before the
+-- sum where a large header has no room, and behind it else.
+pub record IsWritten (area : Area) (at : ℕ) : Type 0 where
+  pub room : has_room area at 24 ≡ true
+  pub written : life_at area at ≡ Unwritten → ⊥
+  pub not_constructed : life_at area at ≡ UnderConstruction → ⊥
+  pub not_invalid : life_at area at ≡ HeaderInvalid → ⊥
+
+pub record HasBadSum (area : Area) (at : ℕ) : Type 0 where
+  pub large : is_large area at ≡ true → has_room area at 32 ≡ true
+  pub sum : header_sum_is_zero area at ≡ false
+
+pub record HasBadSize (area : Area) (at : ℕ) : Type 0 where
+  pub large : is_large area at ≡ true → has_room area at 32 ≡ true
+  pub summed : header_sum_is_zero area at ≡ true
+  pub size : (size_fits area at && not (says_large area at && not area.ffs3)) ≡ false
+
+-- A header at this place is refused for this, whatever its life.
+abbrev pub IsBadAt : Area → ℕ → VolumeKind → Type 0
+IsBadAt area at kind =
+    ((kind ≡ FileSum) × HasBadSum area at)
+    ⊎ ((kind ≡ FileSize) × (HasBadSize area at ⊎ ((is_large area at ≡ true) × (has_room area at 32 ≡ false))))
+
+abbrev pub IsRefusedAt : Area → ℕ → VolumeKind → Type 0
+IsRefusedAt area at kind = IsWritten area at × IsBadAt area at kind
+
+-- the header fails a check, and none in front of it
+pub record HasBadHeader (bytes : List ℕ) (fault : VolumeFault) : Type 0 where
+  pub check : Check
+  pub first : first_failing bytes ≡ Some check
+  pub at : fault.at ≡ check.at
+  pub kind : fault.kind ≡ check.kind
+
+-- the header passes, spans lead to a place, and what stands there is refused
+pub record HasBadFile (bytes : List ℕ) (fault : VolumeFault) : Type 0 where
+  pub header : first_failing bytes ≡ None
+  pub spans : List Span
+  pub leads : Leads (area_of bytes) (first_place bytes) spans fault.at
+  pub refused : IsRefusedAt (area_of bytes) fault.at fault.kind
+
+-- the first fault of bytes that are no volume
+abbrev pub HasFault : List ℕ → VolumeFault → Type 0
+HasFault bytes fault = HasBadHeader bytes fault ⊎ HasBadFile bytes fault

@@ -1,0 +1,93 @@
+-- The header of a firmware volume: EFI_FIRMWARE_VOLUME_HEADER of PI 1.8, volume 3. The order in which it is checked, and what is
+-- refused, are this project's own. All numbers stand with the lowest byte first.
+use Rattle.std.specs.Prelude.{ℕ, ◌+◌, ◌*◌, ◌/◌, ◌%◌, Bool, if◌then◌else◌, ◌==◌, ◌&&◌, ◌||◌, not, nat_le, bit_and, List, [], ◌∷◌, length, take, drop, codes, find, Option}
+use Rattle.std.specs.Str.{bytes_eq}
+use Rattle.mm_base.specs.Numbers.{number_of}
+use Rattle.mm_base.specs.declared.volume.VolumeKind.{VolumeKind}
+use Rattle.mm_base.specs.declared.volume.VolumeKind.TheVariants.{Short, Signature, HeaderLength, HeaderSum, Revision, FileSystem, Length, ExtHeader}
+
+-- the number in so many bytes from a place on
+abbrev pub number_at : List ℕ → ℕ → ℕ → ℕ
+number_at bytes at n = number_of (take n (drop at bytes))
+
+-- whether a number has one of these bits
+abbrev pub has_bit : ℕ → ℕ → Bool
+has_bit number mask = not (bit_and number mask == 0)
+
+-- the fields: the file system's GUID, FvLength, Attributes, HeaderLength, ExtHeaderOffset
+abbrev pub file_system : List ℕ → List ℕ
+file_system bytes = take 16 (drop 16 bytes)
+
+abbrev pub volume_length : List ℕ → ℕ
+volume_length bytes = number_at bytes 32 8
+
+abbrev pub attributes : List ℕ → ℕ
+attributes bytes = number_at bytes 44 4
+
+abbrev pub header_length : List ℕ → ℕ
+header_length bytes = number_at bytes 48 2
+
+abbrev pub ext_header : List ℕ → ℕ
+ext_header bytes = number_at bytes 52 2
+
+-- the size of the extended header, which stands behind its 16-byte name
+abbrev pub ext_size : List ℕ → ℕ
+ext_size bytes = number_at bytes (ext_header bytes + 16) 4
+
+-- 8c8ce578-8a3d-4f1c-9935-896185c32dd3, the file system FFS2, as it is stored
+abbrev pub ffs2_guid : List ℕ
+ffs2_guid = 0x78 ∷ 0xe5 ∷ 0x8c ∷ 0x8c ∷ 0x3d ∷ 0x8a ∷ 0x1c ∷ 0x4f ∷ 0x99 ∷ 0x35 ∷ 0x89 ∷ 0x61 ∷ 0x85 ∷ 0xc3 ∷ 0x2d ∷ 0xd3 ∷ []
+
+-- 5473c07a-3dcb-4dca-bd6f-1e9689e7349a, the file system FFS3, as it is stored
+abbrev pub ffs3_guid : List ℕ
+ffs3_guid = 0x7a ∷ 0xc0 ∷ 0x73 ∷ 0x54 ∷ 0xcb ∷ 0x3d ∷ 0xca ∷ 0x4d ∷ 0xbd ∷ 0x6f ∷ 0x1e ∷ 0x96 ∷ 0x89 ∷ 0xe7 ∷ 0x34 ∷ 0x9a ∷ []
+
+abbrev pub is_ffs3 : List ℕ → Bool
+is_ffs3 bytes = bytes_eq (file_system bytes) ffs3_guid
+
+-- the sum of 16-bit words
+abbrev pub sum_of_words : List ℕ → ℕ
+sum_of_words [] = 0
+sum_of_words (low ∷ []) = low
+sum_of_words (low ∷ high ∷ bytes) = low + 256 * high + sum_of_words bytes
+
+-- whether there is no extended header, or it has at least its 20 bytes and lies in the volume
+abbrev pub ext_header_fits : List ℕ → Bool
+ext_header_fits bytes =
+    (ext_header bytes == 0)
+    || (nat_le (ext_header bytes + 20) (volume_length bytes) && nat_le 20 (ext_size bytes) && nat_le (ext_header bytes + ext_size bytes) (volume_length bytes))
+
+-- one check of a header: what it is a fault of, the place that the fault names, and whether these bytes pass it
+pub record Check : Type 0 where
+  pub kind : VolumeKind
+  pub at : ℕ
+  pub passes : Bool
+
+-- the checks of a volume header, in order
+abbrev pub checks : List ℕ → List Check
+checks bytes =
+    record { kind = Short; at = 0; passes = nat_le 64 (length bytes) }
+    ∷ record { kind = Signature; at = 40; passes = bytes_eq (take 4 (drop 40 bytes)) (codes "_FVH") }
+    ∷ record { kind = HeaderLength; at = 48; passes = nat_le 64 (header_length bytes) && (header_length bytes % 2 == 0) && nat_le (header_length bytes) (length bytes) }
+    ∷ record { kind = HeaderSum; at = 50; passes = sum_of_words (take (header_length bytes) bytes) % 65536 == 0 }
+    ∷ record { kind = Revision; at = 55; passes = number_at bytes 55 1 == 2 }
+    ∷ record { kind = FileSystem; at = 16; passes = bytes_eq (file_system bytes) ffs2_guid || is_ffs3 bytes }
+    ∷ record { kind = Length; at = 32; passes = nat_le (header_length bytes) (volume_length bytes) && nat_le (volume_length bytes) (length bytes) }
+    ∷ record { kind = ExtHeader; at = 52; passes = ext_header_fits bytes }
+    ∷ []
+
+-- the first check that these bytes don't pass
+abbrev pub first_failing : List ℕ → Option Check
+first_failing bytes = find (λ check. not check.passes) (checks bytes)
+
+-- a number rounded up to a multiple of 8
+abbrev pub up_to_8 : ℕ → ℕ
+up_to_8 n = 8 * ((n + 7) / 8)
+
+-- where the first file stands: behind the header, or behind the extended one, at a multiple of 8
+abbrev pub first_place : List ℕ → ℕ
+first_place bytes = up_to_8 (if ext_header bytes == 0 then header_length bytes else ext_header bytes + ext_size bytes)
+
+-- whether a byte that was erased and not written since has all bits set
+abbrev pub erases_to_ones : List ℕ → Bool
+erases_to_ones bytes = has_bit (attributes bytes) 0x800

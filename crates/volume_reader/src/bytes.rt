@@ -1,0 +1,66 @@
+//! Numbers and sums of bytes.
+ghost use Rattle.std.specs.Prelude.{◌≡◌, ◌+◌, ◌%◌, ◌^◌, ◌≤◌, ◌<◌, length, sum, take, drop};
+ghost use Rattle.std.specs.Str.{bytes_eq};
+ghost use Rattle.volume_reader.specs.VolumeHeader.{number_at as number_of_bytes_at, sum_of_words as words_summed, up_to_8 as rounded_up};
+
+use mm_base::le_at;
+
+/// The number in the `n` bytes from `at`, the lowest byte first.
+pub(crate) fn number_at(bytes: &[u8], at: usize, n: u8) -> u64
+    requires low { 1 ≤ n }
+    requires high { n ≤ 8 }
+    requires within { at + n ≤ length bytes.now }
+    ensures { result ≡ number_of_bytes_at bytes.now at n }
+{
+    le_at(bytes, at, n).unwrap()
+}
+
+/// The byte at a place.
+pub(crate) fn byte_at(bytes: &[u8], at: usize) -> u8
+    requires { at < length bytes.now }
+    ensures { result ≡ number_of_bytes_at bytes.now at 1 }
+{
+    bytes[at]
+}
+
+/// Whether these bytes stand at a place.
+pub(crate) fn stands_at(bytes: &[u8], at: usize, wanted: &[u8]) -> bool
+    requires { at + length wanted.now ≤ length bytes.now }
+    ensures { result ≡ bytes_eq (take (length wanted.now) (drop at bytes.now)) wanted.now }
+{
+    let there = &bytes[at..at + wanted.len()];
+    there == wanted
+}
+
+/// The 8-bit sum of bytes; linear in them.
+pub(crate) fn sum_of_bytes(bytes: &[u8]) -> u8
+    ensures { result ≡ sum bytes.now % 256 }
+{
+    let mut total: u8 = 0;
+    for byte in bytes {
+        total = total.wrapping_add(*byte);
+    }
+    total
+}
+
+/// The 16-bit sum of the words in bytes; linear in them.
+pub(crate) fn sum_of_words(bytes: &[u8]) -> u16
+    requires { length bytes.now % 2 ≡ 0 }
+    ensures { result ≡ words_summed bytes.now % 65536 }
+{
+    let mut total: u16 = 0;
+    for place in 0..bytes.len() / 2 {
+        let low = u16::from(bytes[2 * place]);
+        let high = u16::from(bytes[2 * place + 1]);
+        total = total.wrapping_add(low + 256 * high);
+    }
+    total
+}
+
+/// A place rounded up to a multiple of 8.
+pub(crate) fn up_to_8(place: usize) -> usize
+    requires { place ≤ 4294967296 }
+    ensures { result ≡ rounded_up place }
+{
+    8 * ((place + 7) / 8)
+}

@@ -1,0 +1,180 @@
+//! The header of a volume.
+ghost use Rattle.std.specs.Prelude.{◌≡◌, ◌+◌, ◌%◌, ◌≤◌, ◌&&◌, ◌||◌, ◌==◌, if◌then◌else◌, length, true, false, nat_le, take, drop, codes, None, OnOk, IfErr};
+ghost use Rattle.std.specs.Str.{bytes_eq};
+ghost use Rattle.volume_reader.specs.VolumeHeader.{header_length as header_length_of, volume_length as volume_length_of, ext_header, ext_size, ext_header_fits as has_room_for_ext, file_system, ffs2_guid, ffs3_guid, is_ffs3 as is_ffs3_volume, sum_of_words as words_summed, first_failing, first_place as first_place_of, erases_to_ones as erased_are_ones};
+ghost use Rattle.volume_reader.specs.VolumeGrammar.{HasBadHeader};
+
+use crate::bytes::{byte_at, number_at, stands_at, sum_of_words, up_to_8};
+use crate::reading::VolumeFault;
+use mm_base::VolumeKind;
+
+/// How many bytes the fixed part of a volume header has.
+const FIXED_BYTES: usize = 64;
+
+/// How many bytes an extended header has at least: its name and its size.
+const EXT_BYTES: usize = 20;
+
+const SIGNATURE: [u8; 4] = *b"_FVH";
+
+const REVISION: u8 = 2;
+
+/// The volume attribute that erased bytes read as ones.
+const ERASE_POLARITY: u64 = 0x800;
+
+/// The file systems FFS2 and FFS3 by their GUIDs, as they are stored.
+const FFS2: [u8; 16] = [
+    0x78, 0xe5, 0x8c, 0x8c, 0x3d, 0x8a, 0x1c, 0x4f, 0x99, 0x35, 0x89, 0x61, 0x85, 0xc3, 0x2d, 0xd3,
+];
+
+const FFS3: [u8; 16] = [
+    0x7a, 0xc0, 0x73, 0x54, 0xcb, 0x3d, 0xca, 0x4d, 0xbd, 0x6f, 0x1e, 0x96, 0x89, 0xe7, 0x34, 0x9a,
+];
+
+/// The length of the header that a volume names.
+fn header_length(bytes: &[u8]) -> usize
+    requires { 64 ≤ length bytes.now }
+    ensures { result ≡ header_length_of bytes.now }
+{
+    number_at(bytes, 48, 2) as usize
+}
+
+/// The length that a volume names.
+pub(crate) fn volume_length(bytes: &[u8]) -> usize
+    requires { 64 ≤ length bytes.now }
+    ensures { result ≡ volume_length_of bytes.now }
+{
+    number_at(bytes, 32, 8) as usize
+}
+
+/// Whether the file system is FFS3.
+pub(crate) fn is_ffs3(bytes: &[u8]) -> bool
+    requires { 64 ≤ length bytes.now }
+    ensures { result ≡ is_ffs3_volume bytes.now }
+{
+    stands_at(bytes, 16, &FFS3)
+}
+
+/// Whether bytes that were erased read as ones.
+pub(crate) fn erases_to_ones(bytes: &[u8]) -> bool
+    requires { 64 ≤ length bytes.now }
+    ensures { result ≡ erased_are_ones bytes.now }
+{
+    number_at(bytes, 44, 4) & ERASE_POLARITY != 0
+}
+
+/// Whether a volume header's signature stands in its place.
+fn has_signature(bytes: &[u8]) -> bool
+    requires { 64 ≤ length bytes.now }
+    ensures { result ≡ bytes_eq (take 4 (drop 40 bytes.now)) (codes "_FVH") }
+{
+    stands_at(bytes, 40, &SIGNATURE)
+}
+
+/// Whether the file system is FFS2 or FFS3.
+fn has_known_system(bytes: &[u8]) -> bool
+    requires { 64 ≤ length bytes.now }
+    ensures { result ≡ (bytes_eq (file_system bytes.now) ffs2_guid || is_ffs3_volume bytes.now) }
+{
+    stands_at(bytes, 16, &FFS2) || is_ffs3(bytes)
+}
+
+/// Whether the header's length is even, and from 64 to what there is.
+fn header_length_fits(bytes: &[u8]) -> bool
+    requires { 64 ≤ length bytes.now }
+    ensures { result
+        ≡ (nat_le 64 (header_length_of bytes.now) && (header_length_of bytes.now % 2 == 0) && nat_le (header_length_of bytes.now) (length bytes.now)) }
+{
+    let length = header_length(bytes);
+    FIXED_BYTES <= length && length % 2 == 0 && length <= bytes.len()
+}
+
+/// Whether the 16-bit words of the header sum up to 0; linear in the header.
+fn header_sums_up(bytes: &[u8]) -> bool
+    requires fixed { 64 ≤ length bytes.now }
+    requires even { header_length_of bytes.now % 2 ≡ 0 }
+    requires within { header_length_of bytes.now ≤ length bytes.now }
+    ensures { result
+        ≡ (words_summed (take (header_length_of bytes.now) bytes.now) % 65536 == 0) }
+{
+    let (header, _) = bytes.split_at(header_length(bytes));
+    sum_of_words(header) == 0
+}
+
+/// Whether the volume's length holds the header, and leads past no end.
+fn volume_length_fits(bytes: &[u8]) -> bool
+    requires { 64 ≤ length bytes.now }
+    ensures { result
+        ≡ (nat_le (header_length_of bytes.now) (volume_length_of bytes.now) && nat_le (volume_length_of bytes.now) (length bytes.now)) }
+{
+    let length = volume_length(bytes);
+    header_length(bytes) <= length && length <= bytes.len()
+}
+
+/// Whether there is no extended header, or it lies in the volume.
+fn ext_header_fits(bytes: &[u8]) -> bool
+    requires fixed { 64 ≤ length bytes.now }
+    requires within { volume_length_of bytes.now ≤ length bytes.now }
+    requires few { length bytes.now ≤ 16777216 }
+    ensures { result ≡ has_room_for_ext bytes.now }
+{
+    let at = number_at(bytes, 52, 2) as usize;
+    if at == 0 {
+        return true;
+    }
+    let length = volume_length(bytes);
+    if length < at || length - at < EXT_BYTES {
+        return false;
+    }
+    let size = number_at(bytes, at + 16, 4) as usize;
+    EXT_BYTES <= size && size <= length - at
+}
+
+/// The place behind the header, or behind the extended one where there is one.
+fn behind_header(bytes: &[u8]) -> usize
+    requires { first_failing bytes.now ≡ None }
+    ensures value { result
+        ≡ (if ext_header bytes.now == 0 then header_length_of bytes.now else ext_header bytes.now + ext_size bytes.now) }
+    ensures within { result ≤ volume_length_of bytes.now }
+{
+    let at = number_at(bytes, 52, 2) as usize;
+    if at == 0 {
+        return header_length(bytes);
+    }
+    at + number_at(bytes, at + 16, 4) as usize
+}
+
+/// The place of the first file.
+pub(crate) fn first_place(bytes: &[u8]) -> usize
+    requires header { first_failing bytes.now ≡ None }
+    requires few { length bytes.now ≤ 16777216 }
+    ensures { result ≡ first_place_of bytes.now }
+{
+    up_to_8(behind_header(bytes))
+}
+
+/// Passes one check, or says what fails it.
+fn check(passes: bool, at: u32, kind: VolumeKind) -> Result<(), VolumeFault>
+    ensures ok { OnOk result (passes ≡ true) }
+    ensures fault { IfErr result (λ fault. (passes ≡ false) × (fault ≡ record { at = at; kind = kind })) }
+{
+    if passes {
+        return Ok(());
+    }
+    Err(VolumeFault { at, kind })
+}
+
+/// Checks a volume header, in order; the first check that fails is the fault.
+pub(crate) fn check_header(bytes: &[u8]) -> Result<(), VolumeFault>
+    requires { length bytes.now ≤ 16777216 }
+    ensures ok { OnOk result (first_failing bytes.now ≡ None) }
+    ensures fault { IfErr result (HasBadHeader bytes.now) }
+{
+    check(FIXED_BYTES <= bytes.len(), 0, VolumeKind::Short)?;
+    check(has_signature(bytes), 40, VolumeKind::Signature)?;
+    check(header_length_fits(bytes), 48, VolumeKind::HeaderLength)?;
+    check(header_sums_up(bytes), 50, VolumeKind::HeaderSum)?;
+    check(byte_at(bytes, 55) == REVISION, 55, VolumeKind::Revision)?;
+    check(has_known_system(bytes), 16, VolumeKind::FileSystem)?;
+    check(volume_length_fits(bytes), 32, VolumeKind::Length)?;
+    check(ext_header_fits(bytes), 52, VolumeKind::ExtHeader)
+}
