@@ -51,7 +51,10 @@ ends 1 - "$usage" "$program" script
 ends 1 - "$usage" "$program" script version.script more
 ends 1 - "$usage" "$program" Script version.script
 ends 1 - "$usage" "$program" --help
-ends 1 - "$usage" "$program" live version.script version.script
+for form in 'serve V' 'serve V S' 'check V' 'boot V' 'live V W' 'gen 0' 'gen 10' 'convert V' 'audit V' 'verify V T'; do
+    # shellcheck disable=SC2086
+    ends 1 - "$usage" "$program" $form
+done
 ends 1 - "$usage" "$program" script "$(printf '\377')"
 
 # refused TEXT LINE WHY: a script of this text is refused at this line.

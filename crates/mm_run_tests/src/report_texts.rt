@@ -150,3 +150,56 @@ lane 0 length 0000000000000019 status 800000000000000e data -
     );
     Ok(())
 }
+
+/// The invocations of a chain that ended in each way that the other report doesn't show.
+fn chain_of_ends(alloc: Global) -> Result<List<Invocation>, NoMemory> {
+    let mut chain = List::new(alloc);
+    let ends = [
+        Ended::Denied(Why::Mmram, 0x8000_4fff),
+        Ended::Denied(Why::NoRule, 0x70),
+        Ended::Fault(FaultKind::Encoding, 1),
+        Ended::Fault(FaultKind::Alignment, 2),
+        Ended::Fault(FaultKind::Break, 3),
+        Ended::Fault(FaultKind::NativeCall, 4),
+        Ended::Returned(0x8000_0000_0000_000f),
+    ];
+    for (number, end) in ends.iter().enumerate() {
+        chain.push(ended(alloc, number as u32, *end))?;
+    }
+    Ok(chain)
+}
+
+#[test]
+fn ends_of_invocations(rt: HostRuntime) -> Result<(), Fail> {
+    let alloc = rt.alloc();
+    let mut told = outcome(
+        alloc,
+        Shape::Dispatched(VERSION),
+        0,
+        List::from_slice(alloc, &[0x0a, 0xb0])?,
+    );
+    told.chain = chain_of_ends(alloc)?;
+    let entries = one(alloc, 24, &[7; 24], Saved::ZERO, told)?;
+    let parts = Parts {
+        entries: Some(&entries),
+        lanes: None,
+    };
+    let text = report(alloc, &parts)?;
+    assert_eq!(rt;
+        text.as_slice(),
+        b"entry 0 lane 0 loads 4 status 0000000000000000
+  request 0000000000000018 070707070707070707070707070707070707070707070707
+  dispatched 4d4d5631-0001-4000-8000-000000000001
+  handler 0 denied mmram at 0000000080004fff
+  handler 1 denied norule at 0000000000000070
+  handler 2 fault encoding at 0000000000000001
+  handler 3 fault alignment at 0000000000000002
+  handler 4 fault break at 0000000000000003
+  handler 5 fault nativecall at 0000000000000004
+  handler 6 returned 800000000000000f
+  reply 0ab0
+"
+        .as_slice()
+    );
+    Ok(())
+}

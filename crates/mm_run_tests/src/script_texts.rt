@@ -440,3 +440,64 @@ fn refuses_past_limits(rt: HostRuntime) -> Result<(), Fail> {
     assert!(rt; refuses_more(rt.alloc())?);
     Ok(())
 }
+
+/// Cells at the ends of their ranges.
+const EDGES: &[u8] =
+    b"lanes 1 3\ncell io ffff 0\ncell msr 1fff 1\ncell msr c0001fff 2\ncell dev 0 3\n";
+
+/// The kind, the place and the value of each.
+const EDGE_CELLS: [(Kind, u64, u64); 4] = [
+    (Kind::Io, 0xffff, 0),
+    (Kind::Msr, 0x1fff, 1),
+    (Kind::Msr, 0xc000_1fff, 2),
+    (Kind::Memory, 0xfe00_0000, 3),
+];
+
+/// One GUID in each form in which it may be written.
+const FORMS: &[u8] =
+    b"lanes 1 3\nhandler 12345678-9abc-def0-1122-334455667788 0\nhandler 123456789ABCDEF01122334455667788 0\nhandler {12345678-9abc-def0-1122-334455667788} 0\nhandler urn:uuid:12345678-9abc-def0-1122-334455667788 0\n";
+
+const IN_EACH_FORM: Guid = Guid([
+    0x78, 0x56, 0x34, 0x12, 0xbc, 0x9a, 0xf0, 0xde, 0x11, 0x22, 0x33, 0x44, 0x55, 0x66, 0x77, 0x88,
+]);
+
+fn has_edge_cells(script: &Script) -> bool {
+    let cells = script.opening.cells.as_slice();
+    cells.len() == EDGE_CELLS.len()
+        && cells
+            .iter()
+            .zip(EDGE_CELLS.iter())
+            .all(|(cell, edge)| cell.kind == edge.0 && cell.at == edge.1 && cell.value == edge.2)
+}
+
+fn has_each_form(script: &Script) -> bool {
+    let handlers = script.handlers.as_slice();
+    handlers.len() == 4
+        && handlers
+            .iter()
+            .all(|handler| handler.guid == Some(IN_EACH_FORM))
+}
+
+fn reads_edges(alloc: Global) -> bool {
+    match read(alloc, EDGES, false) {
+        Ok(script) => has_edge_cells(&script),
+        Err(_) => false,
+    }
+}
+
+fn reads_forms(alloc: Global) -> bool {
+    match read(alloc, FORMS, true) {
+        Ok(script) => has_each_form(&script),
+        Err(_) => false,
+    }
+}
+
+#[test]
+fn reads_cells_at_the_edges(rt: HostRuntime) {
+    assert!(rt; reads_edges(rt.alloc()));
+}
+
+#[test]
+fn reads_guids_in_each_form(rt: HostRuntime) {
+    assert!(rt; reads_forms(rt.alloc()));
+}
