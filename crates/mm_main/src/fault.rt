@@ -15,11 +15,15 @@ pub enum Fault<'a> {
         why: &'static str,
     },
     #[error("{name:?} could not be opened or read")]
-    Read { name: &'a str },
+    Read {
+        name: &'a str,
+    },
     #[error("standard output could not be written")]
     Write,
     #[error("{name:?} has more than {most} bytes", most = MOST_SCRIPT_BYTES)]
-    TooLong { name: &'a str },
+    TooLong {
+        name: &'a str,
+    },
     #[error("memory was refused")]
     NoMemory,
 }
@@ -57,7 +61,8 @@ fn why(kind: TextKind) -> &'static str {
             "it may not stand here: lanes stands first and once, cell and handler before all that happens"
         }
         TextKind::Words => "it has too many or too few words, or one that such a line doesn't know",
-        TextKind::Number => "one of its words can't be read as the number, bytes or GUID that stand there",
+        TextKind::Number =>
+            "one of its words can't be read as the number, bytes or GUID that stand there",
         TextKind::Range => "a number is out of its range, or names what isn't there",
         TextKind::Missing => "the script has no line that says anything",
     }

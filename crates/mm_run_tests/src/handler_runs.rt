@@ -218,7 +218,14 @@ fn is_refused(
     kind: TextKind,
 ) -> Result<(), Fail> {
     let words = script_words(alloc)?;
-    refuses(rt, alloc, &words, script, &[], Status::BadText { line, kind })?;
+    refuses(
+        rt,
+        alloc,
+        &words,
+        script,
+        &[],
+        Status::BadText { line, kind },
+    )?;
     Ok(())
 }
 

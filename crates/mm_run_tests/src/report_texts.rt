@@ -199,7 +199,7 @@ fn ends_of_invocations(rt: HostRuntime) -> Result<(), Fail> {
   handler 6 returned 800000000000000f
   reply 0ab0
 "
-        .as_slice()
+            .as_slice()
     );
     Ok(())
 }

@@ -32,11 +32,20 @@ pub fn many(alloc: Global, count: usize, byte: u8) -> Result<Bytes, NoMemory> {
 
 /// A sink that takes so many bytes a call.
 pub fn sink(alloc: Global, most: u32, failing: &[u32]) -> Result<MemorySink, NoMemory> {
-    Ok(MemorySink::new(many(alloc, ROOM, b'#')?, most, List::from_slice(alloc, failing)?))
+    Ok(MemorySink::new(
+        many(alloc, ROOM, b'#')?,
+        most,
+        List::from_slice(alloc, failing)?,
+    ))
 }
 
 /// A run of this script answers 0 and writes this report.
-pub fn reports(rt: &impl Abort, alloc: Global, script: &[u8], report: &[u8]) -> Result<(), NoMemory> {
+pub fn reports(
+    rt: &impl Abort,
+    alloc: Global,
+    script: &[u8],
+    report: &[u8],
+) -> Result<(), NoMemory> {
     let words = script_words(alloc)?;
     let mut first = source(alloc, script, &[])?;
     let mut second = source(alloc, b"", &[])?;

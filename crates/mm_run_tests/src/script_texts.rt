@@ -1,7 +1,7 @@
 //! Texts that are read, and texts that are refused. What is expected was worked out by hand from the rules of the text.
-use mm_text::{TextEnd, read_script};
 use comm_core::{Event, Script};
 use mm_base::{CellWrite, Guid, Handler, HandlerBody, Kind, NoMemory, Saved, TextKind};
+use mm_text::{TextEnd, read_script};
 use std::alloc::Global;
 use std::test::Fail;
 
@@ -464,10 +464,9 @@ const IN_EACH_FORM: Guid = Guid([
 fn has_edge_cells(script: &Script) -> bool {
     let cells = script.opening.cells.as_slice();
     cells.len() == EDGE_CELLS.len()
-        && cells
-            .iter()
-            .zip(EDGE_CELLS.iter())
-            .all(|(cell, edge)| cell.kind == edge.0 && cell.at == edge.1 && cell.value == edge.2)
+        && cells.iter().zip(EDGE_CELLS.iter()).all(|(cell, edge)| cell.kind == edge.0
+            && cell.at == edge.1
+            && cell.value == edge.2)
 }
 
 fn has_each_form(script: &Script) -> bool {
