@@ -1,3 +1,4 @@
 pub mod GuidLemmas
 pub mod ListLemmas
 pub mod NumberLemmas
+pub mod RangeLemmas

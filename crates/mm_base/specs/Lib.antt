@@ -7,6 +7,7 @@ pub mod Machine
 pub mod NumberLaws
 pub mod Numbers
 pub mod Prepared
+pub mod Range
 pub mod Receipt
 pub mod Records
 pub mod Replay

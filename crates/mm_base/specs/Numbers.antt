@@ -1,11 +1,19 @@
 -- Numbers as bytes, the lowest byte first, and bytes as words of 64 bits.
-use Rattle.std.specs.Prelude.{ℕ, zero, suc, ◌+◌, ◌*◌, ◌/◌, List, [], ◌∷◌, ◌++◌, take, drop, length}
+use Rattle.std.specs.Prelude.{ℕ, zero, suc, ◌+◌, ◌*◌, ◌/◌, Bool, ◌==◌, not, bit_and, List, [], ◌∷◌, ◌++◌, take, drop, length}
 use Rattle.std.specs.Int.{to_le_bytes, w64}
 
 -- the number that bytes spell, the lowest byte first
 abbrev pub number_of : List ℕ → ℕ
 number_of [] = 0
 number_of (byte ∷ bytes) = byte + 256 * number_of bytes
+
+-- the number in so many bytes from a place on
+abbrev pub number_at : List ℕ → ℕ → ℕ → ℕ
+number_at bytes at n = number_of (take n (drop at bytes))
+
+-- whether a number has one of these bits
+abbrev pub has_bit : ℕ → ℕ → Bool
+has_bit number mask = not (bit_and number mask == 0)
 
 -- the eight bytes of a word
 abbrev pub bytes_of_word : ℕ → List ℕ

@@ -1,6 +1,7 @@
 //! Numbers in bytes, the lowest byte first.
 ghost use Rattle.std.specs.Prelude.{◌≡◌, ◌+◌, ◌*◌, ◌≤◌, ◌<◌, ◌↔◌, IsSome, IfSome, take, drop, length};
-ghost use Rattle.mm_base.specs.Numbers.{number_of, word_at as word_of_bytes, bytes_of_word};
+ghost use Rattle.std.specs.Str.{bytes_eq};
+ghost use Rattle.mm_base.specs.Numbers.{number_of, number_at as number_there, word_at as word_of_bytes, bytes_of_word};
 
 use byteorder::{ByteOrder, LittleEndian};
 
@@ -20,6 +21,25 @@ pub fn le_at(bytes: &[u8], at: usize, n: u8) -> Option<u64>
     }
     let (_, rest) = bytes.split_at(at);
     Some(LittleEndian::read_uint(rest, count))
+}
+
+/// The number in the `n` bytes from `at`, which are there, for `n` of 1 to 8.
+pub fn number_at(bytes: &[u8], at: usize, n: u8) -> u64
+    requires low { 1 ≤ n }
+    requires high { n ≤ 8 }
+    requires within { at + n ≤ length bytes.now }
+    ensures { result ≡ number_there bytes.now at n }
+{
+    le_at(bytes, at, n).unwrap()
+}
+
+/// Whether the bytes from `at` on begin with these; linear in these.
+pub fn stands_at(bytes: &[u8], at: usize, wanted: &[u8]) -> bool
+    requires { at + length wanted.now ≤ length bytes.now }
+    ensures { result ≡ bytes_eq (take (length wanted.now) (drop at bytes.now)) wanted.now }
+{
+    let there = &bytes[at..at + wanted.len()];
+    there == wanted
 }
 
 /// Word `j` of bytes; what is past their end counts as 0.

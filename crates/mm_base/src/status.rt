@@ -1,6 +1,6 @@
-//! Status codes of the UEFI and PI specifications, as they stand in a lane's status word.
+//! Status codes of the UEFI and PI specifications, as they stand in a lane's status word. The top bit marks an error.
 
-/// The top bit marks an error.
+/// All went well.
 pub const SUCCESS: u64 = 0;
 
 pub const INVALID_PARAMETER: u64 = 0x8000_0000_0000_0002;

@@ -2,8 +2,8 @@ ghost use Rattle.std.specs.Prelude.{◌≡◌, ◌≤◌, [], length, IfOk};
 
 use crate::{
     CellWrite, Denial, Ended, Entries, Guid, Invocation, Kind, List, NoMemory, Outcome,
-    OutcomeRooms, Prepared, Receipt, Records, Right, Room, Saved, Shape, Why, guid_at, is_cell,
-    le_at, status, word_at,
+    OutcomeRooms, Prepared, Range, Receipt, Records, Right, Room, Saved, Shape, Why, guid_at,
+    is_cell, le_at, status, word_at,
 };
 use std::alloc::Global;
 use std::test::Fail;
@@ -274,4 +274,38 @@ fn overwrites_in_place(rt: HostRuntime) -> Result<(), Fail> {
     let room = overwritten(rt.alloc())?;
     assert!(rt; room.as_slice() == [1, 2, 9, 8, 5].as_slice());
     Ok(())
+}
+
+// A range by its base and its length, another one, whether they overlap, and whether the first covers the second.
+const RANGES: [((u64, u64), (u64, u64), bool, bool); 9] = [
+    ((10, 5), (10, 5), true, true),
+    ((10, 5), (14, 1), true, true),
+    ((10, 5), (15, 1), false, false),
+    ((10, 5), (14, 2), true, false),
+    ((10, 5), (9, 2), true, false),
+    ((10, 5), (9, 1), false, false),
+    ((10, 5), (15, 0), false, true),
+    ((10, 0), (10, 5), false, false),
+    ((u64::MAX, 1), (0, u64::MAX), false, false),
+];
+
+/// Whether two ranges, each by its base and its length, overlap, and whether the first covers the second.
+fn compared(one: (u64, u64), other: (u64, u64)) -> Option<(bool, bool)> {
+    let one = Range::new(one.0, one.1)?;
+    let other = Range::new(other.0, other.1)?;
+    Some((one.overlaps(&other), one.covers(&other)))
+}
+
+#[test]
+fn compares_ranges(rt: HostRuntime) {
+    for (one, other, overlaps, covers) in RANGES {
+        assert_eq!(rt;
+            compared(one, other),
+            Some((overlaps, covers)),
+            "{one:?} {other:?}"
+        );
+    }
+    assert_eq!(rt; Range::new(u64::MAX, 1).is_some(), true);
+    assert_eq!(rt; Range::new(u64::MAX, 2).is_some(), false);
+    assert_eq!(rt; Range::new(2, u64::MAX).is_some(), false);
 }

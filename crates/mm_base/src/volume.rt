@@ -18,11 +18,12 @@ pub enum VolumeKind {
     FileSystem,
     /// The volume's length is below its header's, or over the input.
     Length,
-    /// The extended header doesn't fit the volume.
+    /// The extended header has fewer than 20 bytes, or doesn't fit the volume.
     ExtHeader,
     /// The 8-bit sum over a file header isn't 0.
     FileSum,
-    /// A file's size is below its header's, or leads past the volume.
+    /// A file's size is below its header's, or leads past the volume; or a file says that it is large where there is no room
+    /// for a large header, or in FFS2, which knows no large files.
     FileSize,
 }
 

@@ -1,7 +1,7 @@
 -- What stands at a place of a volume: EFI_FFS_FILE_HEADER and EFI_FFS_FILE_HEADER2 of PI 1.8, volume 3.
 use Rattle.std.specs.Prelude.{ℕ, ◌+◌, ◌-◌, ◌%◌, Bool, if◌then◌else◌, ◌==◌, ◌&&◌, ◌||◌, nat_le, nat_lt, bit_and, bit_xor, List, length, take, drop, sum, slice_set}
 use Rattle.mm_base.specs.declared.volume.File.{File}
-use Rattle.volume_reader.specs.VolumeHeader.{number_at, has_bit}
+use Rattle.mm_base.specs.Numbers.{number_at, has_bit}
 use Rattle.volume_reader.specs.declared.life.Life.{Life}
 use Rattle.volume_reader.specs.declared.life.Life.TheVariants.{Unwritten, UnderConstruction, HeaderOnly, Valid, BeingReplaced, Deleted, HeaderInvalid}
 

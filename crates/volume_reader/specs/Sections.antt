@@ -4,7 +4,7 @@ use Rattle.std.specs.List.{slice_get}
 use Rattle.mm_base.specs.declared.volume.File.{File}
 use Rattle.mm_base.specs.declared.volume.Section.{Section}
 use Rattle.mm_base.specs.declared.volume.SectionFault.{SectionFault}
-use Rattle.volume_reader.specs.VolumeHeader.{number_at}
+use Rattle.mm_base.specs.Numbers.{number_at}
 
 -- the body of a file
 abbrev pub body_of : List ℕ → File → List ℕ

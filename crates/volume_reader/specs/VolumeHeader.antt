@@ -1,18 +1,10 @@
 -- The header of a firmware volume: EFI_FIRMWARE_VOLUME_HEADER of PI 1.8, volume 3. The order in which it is checked, and what is
 -- refused, are this project's own. All numbers stand with the lowest byte first.
-use Rattle.std.specs.Prelude.{ℕ, ◌+◌, ◌*◌, ◌/◌, ◌%◌, Bool, if◌then◌else◌, ◌==◌, ◌&&◌, ◌||◌, not, nat_le, bit_and, List, [], ◌∷◌, length, take, drop, codes, find, Option}
+use Rattle.std.specs.Prelude.{ℕ, ◌+◌, ◌*◌, ◌/◌, ◌%◌, Bool, if◌then◌else◌, ◌==◌, ◌&&◌, ◌||◌, not, nat_le, List, [], ◌∷◌, length, take, drop, codes, find, Option}
 use Rattle.std.specs.Str.{bytes_eq}
-use Rattle.mm_base.specs.Numbers.{number_of}
+use Rattle.mm_base.specs.Numbers.{number_at, has_bit}
 use Rattle.mm_base.specs.declared.volume.VolumeKind.{VolumeKind}
 use Rattle.mm_base.specs.declared.volume.VolumeKind.TheVariants.{Short, Signature, HeaderLength, HeaderSum, Revision, FileSystem, Length, ExtHeader}
-
--- the number in so many bytes from a place on
-abbrev pub number_at : List ℕ → ℕ → ℕ → ℕ
-number_at bytes at n = number_of (take n (drop at bytes))
-
--- whether a number has one of these bits
-abbrev pub has_bit : ℕ → ℕ → Bool
-has_bit number mask = not (bit_and number mask == 0)
 
 -- the fields: the file system's GUID, FvLength, Attributes, HeaderLength, ExtHeaderOffset
 abbrev pub file_system : List ℕ → List ℕ

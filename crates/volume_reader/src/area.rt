@@ -4,9 +4,9 @@ ghost use Rattle.volume_reader.specs.FileHeader.{has_room as has_room_for, life_
 ghost use Rattle.volume_reader.specs.VolumeGrammar.{HasHeader, IsBadAt};
 ghost use Rattle.volume_reader.specs.Finding.{Finds, FindsFile};
 
-use crate::bytes::{byte_at, number_at, sum_of_bytes, up_to_8};
+use crate::bytes::{byte_at, sum_of_bytes, up_to_8};
 use crate::life::Life;
-use mm_base::{File, VolumeKind, guid_at};
+use mm_base::{File, VolumeKind, guid_at, number_at};
 use std::marker::Model;
 
 /// How many bytes a file header has, and that of a large file.

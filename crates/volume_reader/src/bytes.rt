@@ -1,35 +1,14 @@
-//! Numbers and sums of bytes.
+//! Bytes, and sums of them.
 ghost use Rattle.std.specs.Prelude.{◌≡◌, ◌+◌, ◌%◌, ◌^◌, ◌≤◌, ◌<◌, length, sum, take, drop};
-ghost use Rattle.std.specs.Str.{bytes_eq};
-ghost use Rattle.volume_reader.specs.VolumeHeader.{number_at as number_of_bytes_at, sum_of_words as words_summed, up_to_8 as rounded_up};
-
-use mm_base::le_at;
-
-/// The number in the `n` bytes from `at`, the lowest byte first.
-pub(crate) fn number_at(bytes: &[u8], at: usize, n: u8) -> u64
-    requires low { 1 ≤ n }
-    requires high { n ≤ 8 }
-    requires within { at + n ≤ length bytes.now }
-    ensures { result ≡ number_of_bytes_at bytes.now at n }
-{
-    le_at(bytes, at, n).unwrap()
-}
+ghost use Rattle.mm_base.specs.Numbers.{number_at as number_there};
+ghost use Rattle.volume_reader.specs.VolumeHeader.{sum_of_words as words_summed, up_to_8 as rounded_up};
 
 /// The byte at a place.
 pub(crate) fn byte_at(bytes: &[u8], at: usize) -> u8
     requires { at < length bytes.now }
-    ensures { result ≡ number_of_bytes_at bytes.now at 1 }
+    ensures { result ≡ number_there bytes.now at 1 }
 {
     bytes[at]
-}
-
-/// Whether these bytes stand at a place.
-pub(crate) fn stands_at(bytes: &[u8], at: usize, wanted: &[u8]) -> bool
-    requires { at + length wanted.now ≤ length bytes.now }
-    ensures { result ≡ bytes_eq (take (length wanted.now) (drop at bytes.now)) wanted.now }
-{
-    let there = &bytes[at..at + wanted.len()];
-    there == wanted
 }
 
 /// The 8-bit sum of bytes; linear in them.

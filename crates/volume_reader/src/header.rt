@@ -4,9 +4,9 @@ ghost use Rattle.std.specs.Str.{bytes_eq};
 ghost use Rattle.volume_reader.specs.VolumeHeader.{header_length as header_length_of, volume_length as volume_length_of, ext_header, ext_size, ext_header_fits as has_room_for_ext, file_system, ffs2_guid, ffs3_guid, is_ffs3 as is_ffs3_volume, sum_of_words as words_summed, first_failing, first_place as first_place_of, erases_to_ones as erased_are_ones};
 ghost use Rattle.volume_reader.specs.VolumeGrammar.{HasBadHeader};
 
-use crate::bytes::{byte_at, number_at, stands_at, sum_of_words, up_to_8};
+use crate::bytes::{byte_at, sum_of_words, up_to_8};
 use crate::reading::VolumeFault;
-use mm_base::VolumeKind;
+use mm_base::{VolumeKind, number_at, stands_at};
 
 /// How many bytes the fixed part of a volume header has.
 const FIXED_BYTES: usize = 64;

@@ -2,8 +2,8 @@
 ghost use Rattle.std.specs.Prelude.{◌≡◌, ◌+◌, ◌≤◌, length, true};
 ghost use Rattle.volume_reader.specs.Sections.{is_extended as is_an_extended, section_header as header_of_section, section_size as size_of_section, has_section as has_a_section, up_to_4 as rounded_up_to_4, walk_of, given_next, walked_on};
 
-use crate::bytes::{byte_at, number_at};
-use mm_base::{File, Section, SectionFault};
+use crate::bytes::byte_at;
+use mm_base::{File, Section, SectionFault, number_at};
 use std::marker::Model;
 
 /// How many bytes a section's header has, and that of an extended section.

@@ -1,5 +1,5 @@
 use Rattle.std.proofs.Common.{◌+◌, ap, ◌∙◌, arith}
-use Rattle.volume_reader.specs.VolumeHeader.{number_at}
+use Rattle.mm_base.specs.Numbers.{number_at}
 use Rattle.volume_reader.proofs.HeaderLemmas.{passed, ext_in}
 use Rattle.volume_reader.proofs.header.behind_header.Goals as goal
 
