@@ -1,3 +1,4 @@
+pub mod CheckLemmas
 pub mod GuidLemmas
 pub mod ListLemmas
 pub mod NumberLemmas

@@ -1,5 +1,6 @@
 pub mod Cells
 pub mod Chain
+pub mod Checks
 pub mod Entry
 pub mod Guid
 pub mod GuidLaws

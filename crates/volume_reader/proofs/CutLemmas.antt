@@ -4,11 +4,12 @@ use Rattle.std.specs.Str.{bytes_eq}
 use Rattle.std.proofs.lemmas.List.{drop-take, take-take, length-take-le}
 use Rattle.std.proofs.lemmas.Bool.Decides.{nat_tests}
 use Rattle.mm_base.specs.declared.volume.Volume.{Volume}
+use Rattle.mm_base.proofs.CheckLemmas.{all_pass, none_fails}
 use Rattle.mm_base.specs.Numbers.{number_of, number_at, has_bit}
 use Rattle.volume_reader.specs.VolumeHeader.{checks, first_failing, header_length, volume_length, ext_header, ext_size, ext_header_fits, file_system, ffs2_guid, ffs3_guid, sum_of_words, first_place, up_to_8, erases_to_ones}
 use Rattle.volume_reader.specs.FileHeader.{Area}
 use Rattle.volume_reader.specs.VolumeGrammar.{IsVolume, area_of, Leads, EndsAt, files_in}
-use Rattle.volume_reader.proofs.HeaderLemmas.{all_pass, none_fails, passed, ext_in}
+use Rattle.volume_reader.proofs.HeaderLemmas.{passed, ext_in}
 
 -- a front of a front
 take_cut : (xs : List ℕ) (n cut : ℕ) → n ≤ cut → take n (take cut xs) ≡ take n xs

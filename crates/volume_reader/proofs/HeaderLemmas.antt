@@ -1,36 +1,16 @@
 -- What the checks of a volume header come to, one after another.
-use Rattle.std.proofs.Common.{◌≡◌, ℕ, zero, suc, get_or, take, tests, ◌+◌, ◌≤◌, ◌<◌, Bool, true, false, not, List, [], ◌∷◌, length, Option, Some, None, refl, sym, ap, ◌∙◌, arith, rules, ◌==◌, find}
+use Rattle.std.proofs.Common.{◌≡◌, ℕ, get_or, take, tests, ◌+◌, ◌≤◌, ◌<◌, Bool, true, false, List, length, None, refl, ap, arith, rules, ◌==◌}
 use Rattle.std.proofs.lemmas.Bool.Decides.{nat_tests}
+use Rattle.mm_base.proofs.CheckLemmas.{AllPass, first_at, all_pass}
+use Rattle.mm_base.specs.Checks.{Check}
+use Rattle.mm_base.specs.declared.volume.VolumeKind.{VolumeKind}
 use Rattle.mm_base.specs.declared.volume.VolumeKind.TheVariants.{Short}
-use Rattle.volume_reader.specs.VolumeHeader.{Check, checks, first_failing, header_length, volume_length, ext_header, ext_size, ext_header_fits, first_place, up_to_8}
+use Rattle.volume_reader.specs.VolumeHeader.{checks, first_failing, header_length, volume_length, ext_header, ext_size, ext_header_fits, first_place, up_to_8}
 use Rattle.volume_reader.specs.VolumeGrammar.{HasBadHeader}
 use Rattle.volume_reader.specs.declared.reading.VolumeFault.{VolumeFault}
 
--- the first of these checks that isn't passed
-abbrev pub first_of : List Check → Option Check
-first_of = find (λ check. not check.passes)
-
--- a check that is passed is not the first that fails
-passes_on : (check : Check) (others : List Check) → check.passes ≡ true → first_of (check ∷ others) ≡ first_of others
-passes_on check others e = rw e
-
--- one that isn't is
-stops_at : (check : Check) (others : List Check) → check.passes ≡ false → first_of (check ∷ others) ≡ Some check
-stops_at check others e = rw e
-
--- each of these checks is passed
-abbrev pub AllPass : List Check → Type 0
-AllPass [] = Unit {0}
-AllPass (check ∷ others) = (check.passes ≡ true) × AllPass others
-
--- a check that fails behind others that pass is the first that fails
-first_at : (all : List Check) (k : ℕ) (none : Check) → k < length all → AllPass (take k all) → (get_or all k none).passes ≡ false → first_of all ≡ Some (get_or all k none)
-first_at [] k none h pass e = absurd (omega arith)
-first_at (check ∷ others) zero none h pass e = stops_at check others e
-first_at (check ∷ others) (suc k) none h pass e = passes_on check others pass.0 ∙ first_at others k none (omega arith) pass.1 e
-
 -- the check at a place
-abbrev pub check_at : List ℕ → ℕ → Check
+abbrev pub check_at : List ℕ → ℕ → Check VolumeKind
 check_at bytes k = get_or (checks bytes) k (record { kind = Short; at = 0; passes = true })
 
 -- the first check that fails is the header's fault
@@ -42,24 +22,6 @@ fails bytes fault k h pass e is = record {
   at = ap (λ (f : VolumeFault). f.at) is;
   kind = ap (λ (f : VolumeFault). f.kind) is;
 }
-
--- where no check fails, each is passed
-passed_first : (check : Check) (others : List Check) (passes : Bool) → check.passes ≡ passes → first_of (check ∷ others) ≡ None → (check.passes ≡ true) × (first_of others ≡ None)
-passed_first check others true is none = (is, sym (passes_on check others is) ∙ none)
-passed_first check others false is none =
-    let e : Some check ≡ None = sym (stops_at check others is) ∙ none in
-    cc
-
-pub all_pass : (all : List Check) → first_of all ≡ None → AllPass all
-all_pass [] none = tt
-all_pass (check ∷ others) none =
-    let h = passed_first check others check.passes refl none in
-    (h.0, all_pass others h.1)
-
--- and where each is passed, no check fails
-pub none_fails : (all : List Check) → AllPass all → first_of all ≡ None
-none_fails [] pass = refl
-none_fails (check ∷ others) pass = passes_on check others pass.0 ∙ none_fails others pass.1
 
 -- what a header that passes all checks says of its lengths
 pub record Passed (bytes : List ℕ) : Type 0 where

@@ -1,6 +1,7 @@
 -- Each place of a volume has one thing standing there, and bytes are one volume or have one fault.
 use Rattle.std.proofs.Common.{◌≡◌, ◌⊎◌, inl, inr, ℕ, zero, suc, ◌+◌, ◌<◌, ◌≤◌, Bool, true, false, not, ◌&&◌, List, [], ◌∷◌, length, take, Option, Some, None, Result, Ok, Err, IfOk, IfErr, refl, sym, ap, ◌∙◌, subst, arith}
 use Rattle.std.proofs.lemmas.Bool.Decides.{nat_tests}
+use Rattle.mm_base.specs.Checks.{Check}
 use Rattle.mm_base.specs.declared.volume.File.{File}
 use Rattle.mm_base.specs.declared.volume.Volume.{Volume}
 use Rattle.mm_base.specs.declared.volume.VolumeKind.{VolumeKind}
@@ -10,7 +11,7 @@ use Rattle.volume_reader.specs.declared.life.Life.TheVariants.{Unwritten, UnderC
 use Rattle.volume_reader.specs.declared.reading.VolumeFault.{VolumeFault}
 use Rattle.volume_reader.specs.declared.reading.VolumeEnd.{VolumeEnd}
 use Rattle.volume_reader.specs.declared.reading.VolumeEnd.TheVariants.{Fault, NoMemory}
-use Rattle.volume_reader.specs.VolumeHeader.{Check, first_failing, first_place, volume_length, is_ffs3, erases_to_ones}
+use Rattle.volume_reader.specs.VolumeHeader.{first_failing, first_place, volume_length, is_ffs3, erases_to_ones}
 use Rattle.volume_reader.specs.FileHeader.{Area, has_room, life_at, is_large, says_large, header_sum_is_zero, size_fits}
 use Rattle.volume_reader.specs.VolumeGrammar.{area_of, Span, HeaderAlone, Gone, Counts, EndsAt, HasHeader, StandsAt, Leads, place_behind, files_in, IsWritten, IsBadAt, IsRefusedAt, IsVolume, HasFault}
 use Rattle.volume_reader.specs.Finding.{EndsBy, AreFiles}
@@ -151,8 +152,8 @@ pub one_fault : (bytes : List ℕ) (one other : VolumeFault) → HasFault bytes 
 one_fault bytes one other (inl a) (inl b) =
     let e : Some a.check ≡ Some b.check = sym a.first ∙ b.first in
     let same : a.check ≡ b.check = cc in
-    let places : one.at ≡ other.at = a.at ∙ ap (λ (check : Check). check.at) same ∙ sym b.at in
-    let kinds : one.kind ≡ other.kind = a.kind ∙ ap (λ (check : Check). check.kind) same ∙ sym b.kind in
+    let places : one.at ≡ other.at = a.at ∙ ap (λ (check : Check VolumeKind). check.at) same ∙ sym b.at in
+    let kinds : one.kind ≡ other.kind = a.kind ∙ ap (λ (check : Check VolumeKind). check.kind) same ∙ sym b.kind in
     λ i. record { at = places i; kind = kinds i }
 one_fault bytes one other (inl a) (inr b) = let e : Some a.check ≡ None = sym a.first ∙ b.header in cc
 one_fault bytes one other (inr a) (inl b) = let e : Some b.check ≡ None = sym b.first ∙ a.header in cc
@@ -284,7 +285,7 @@ either bytes = by_header (first_failing bytes) refl
     by_course none course (inr (kind, refused)) =
         inr (record { at = course.end; kind = kind }, inr (record { header = none; spans = course.spans; leads = course.leads; refused = refused }))
 
-    by_header : (first : Option Check) → first_failing bytes ≡ first
+    by_header : (first : Option (Check VolumeKind)) → first_failing bytes ≡ first
         → ((volume : Volume) × IsVolume bytes volume) ⊎ ((fault : VolumeFault) × HasFault bytes fault)
     by_header (Some check) is = inr (record { at = check.at; kind = check.kind }, inl (record { check = check; first = is; at = refl; kind = refl }))
     by_header None is =

@@ -1,10 +1,11 @@
 -- The grammar of volumes: a header that passes its checks, and spans from the first place on, up to the place where files end.
 use Rattle.std.specs.Prelude.{◌≡◌, ◌⊎◌, ℕ, ◌+◌, true, false, ◌&&◌, not, List, [], ◌∷◌, ◌++◌, take, Some, None}
+use Rattle.mm_base.specs.Checks.{Check}
 use Rattle.mm_base.specs.declared.volume.File.{File}
 use Rattle.mm_base.specs.declared.volume.Volume.{Volume}
 use Rattle.mm_base.specs.declared.volume.VolumeKind.{VolumeKind}
 use Rattle.mm_base.specs.declared.volume.VolumeKind.TheVariants.{FileSum, FileSize}
-use Rattle.volume_reader.specs.VolumeHeader.{Check, volume_length, is_ffs3, first_failing, first_place, erases_to_ones, up_to_8}
+use Rattle.volume_reader.specs.VolumeHeader.{volume_length, is_ffs3, first_failing, first_place, erases_to_ones, up_to_8}
 use Rattle.volume_reader.specs.FileHeader.{Area, life_at, says_large, is_large, size_at, has_room, header_sum_is_zero, size_fits, file_at}
 use Rattle.volume_reader.specs.declared.life.Life.TheVariants.{Unwritten, UnderConstruction, HeaderOnly, Valid, BeingReplaced, Deleted, HeaderInvalid}
 use Rattle.volume_reader.specs.declared.reading.VolumeFault.{VolumeFault}
@@ -101,7 +102,7 @@ IsRefusedAt area at kind = IsWritten area at × IsBadAt area at kind
 
 -- the header fails a check, and none in front of it
 pub record HasBadHeader (bytes : List ℕ) (fault : VolumeFault) : Type 0 where
-  pub check : Check
+  pub check : Check VolumeKind
   pub first : first_failing bytes ≡ Some check
   pub at : fault.at ≡ check.at
   pub kind : fault.kind ≡ check.kind

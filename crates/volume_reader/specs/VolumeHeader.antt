@@ -1,7 +1,8 @@
 -- The header of a firmware volume: EFI_FIRMWARE_VOLUME_HEADER of PI 1.8, volume 3. The order in which it is checked, and what is
 -- refused, are this project's own. All numbers stand with the lowest byte first.
-use Rattle.std.specs.Prelude.{ℕ, ◌+◌, ◌*◌, ◌/◌, ◌%◌, Bool, if◌then◌else◌, ◌==◌, ◌&&◌, ◌||◌, not, nat_le, List, [], ◌∷◌, length, take, drop, codes, find, Option}
+use Rattle.std.specs.Prelude.{ℕ, ◌+◌, ◌*◌, ◌/◌, ◌%◌, Bool, if◌then◌else◌, ◌==◌, ◌&&◌, ◌||◌, nat_le, List, [], ◌∷◌, length, take, drop, codes, Option}
 use Rattle.std.specs.Str.{bytes_eq}
+use Rattle.mm_base.specs.Checks.{Check, first_failing as first_failing_of}
 use Rattle.mm_base.specs.Numbers.{number_at, has_bit}
 use Rattle.mm_base.specs.declared.volume.VolumeKind.{VolumeKind}
 use Rattle.mm_base.specs.declared.volume.VolumeKind.TheVariants.{Short, Signature, HeaderLength, HeaderSum, Revision, FileSystem, Length, ExtHeader}
@@ -49,14 +50,8 @@ ext_header_fits bytes =
     (ext_header bytes == 0)
     || (nat_le (ext_header bytes + 20) (volume_length bytes) && nat_le 20 (ext_size bytes) && nat_le (ext_header bytes + ext_size bytes) (volume_length bytes))
 
--- one check of a header: what it is a fault of, the place that the fault names, and whether these bytes pass it
-pub record Check : Type 0 where
-  pub kind : VolumeKind
-  pub at : ℕ
-  pub passes : Bool
-
 -- the checks of a volume header, in order
-abbrev pub checks : List ℕ → List Check
+abbrev pub checks : List ℕ → List (Check VolumeKind)
 checks bytes =
     record { kind = Short; at = 0; passes = nat_le 64 (length bytes) }
     ∷ record { kind = Signature; at = 40; passes = bytes_eq (take 4 (drop 40 bytes)) (codes "_FVH") }
@@ -69,8 +64,8 @@ checks bytes =
     ∷ []
 
 -- the first check that these bytes don't pass
-abbrev pub first_failing : List ℕ → Option Check
-first_failing bytes = find (λ check. not check.passes) (checks bytes)
+abbrev pub first_failing : List ℕ → Option (Check VolumeKind)
+first_failing bytes = first_failing_of (checks bytes)
 
 -- a number rounded up to a multiple of 8
 abbrev pub up_to_8 : ℕ → ℕ
