@@ -1,4 +1,5 @@
 pub mod Buffered
+pub mod Catalog
 pub mod CommunicateHeader
 pub mod CoreState
 pub mod EntryLaws

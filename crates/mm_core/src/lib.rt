@@ -1,9 +1,10 @@
-//! The core: it answers captured requests by its registered handlers.
+//! The core: it answers captured requests by its registered handlers, and says what a boot takes each file of a volume for.
 #![tactic(auto)]
 
 mod buffer;
 mod chain;
 mod entry_step;
+mod file_word;
 mod header;
 mod invoke;
 pub mod laws;
@@ -13,6 +14,7 @@ mod script_core;
 mod tests;
 mod version;
 
+pub use file_word::{Cause, FileWord};
 pub use machine_core::Core;
 pub use script_core::scripted;
 pub use version::{VERSION_GUID, VERSION_NUMBER};

@@ -1,2 +1,5 @@
+pub mod CheckRun
+pub mod Command
 pub mod Run
+pub mod ScriptRun
 pub mod Status

@@ -1,17 +1,21 @@
--- Numbers of statuses.
-use Rattle.std.specs.Prelude.{ℕ}
+-- Numbers and causes of statuses.
+use Rattle.std.specs.Prelude.{ℕ, Bool, true, false}
 use Rattle.mm_io.specs.declared.reading.ReadEnd.{ReadEnd}
 use Rattle.mm_io.specs.declared.reading.ReadEnd.TheVariants as read_end
 use Rattle.mm_text.specs.declared.text_end.TextEnd.{TextEnd}
 use Rattle.mm_text.specs.declared.text_end.TextEnd.TheVariants as text_end
+use Rattle.volume_reader.specs.declared.reading.VolumeEnd.{VolumeEnd}
+use Rattle.volume_reader.specs.declared.reading.VolumeEnd.TheVariants as volume_end
+use Rattle.mm_run.specs.declared.status.BadKind.TheVariants.{Volume}
 use Rattle.mm_run.specs.declared.status.Status.{Status}
-use Rattle.mm_run.specs.declared.status.Status.TheVariants.{Done, Usage, BadText, ReadFault, WriteFault, TooLong, NoMemory}
+use Rattle.mm_run.specs.declared.status.Status.TheVariants.{Done, Usage, BadVolume, BadText, ReadFault, WriteFault, TooLong, NoMemory}
 use Rattle.mm_run.specs.declared.status.Which.{Which}
 
--- the exit status; 2 is kept for a damaged volume
+-- the exit status
 abbrev pub number_of_status : Status → ℕ
 number_of_status Done = 0
 number_of_status Usage = 1
+number_of_status (BadVolume at kind) = 2
 number_of_status (BadText line kind) = 3
 number_of_status (ReadFault which) = 4
 number_of_status WriteFault = 5
@@ -28,3 +32,30 @@ status_of_read read_end.NoMemory which = NoMemory
 abbrev pub status_of_text : TextEnd → Status
 status_of_text (text_end.Fault fault) = BadText fault.line fault.kind
 status_of_text text_end.NoMemory = NoMemory
+
+-- the status of a volume that was not read
+abbrev pub status_of_volume : VolumeEnd → Status
+status_of_volume (volume_end.Fault fault) = BadVolume fault.at (Volume fault.kind)
+status_of_volume volume_end.NoMemory = NoMemory
+
+-- whether the report was written, or a front of it
+abbrev pub writes : Status → Bool
+writes Done = true
+writes Usage = false
+writes (BadVolume at kind) = false
+writes (BadText line kind) = false
+writes (ReadFault which) = false
+writes WriteFault = true
+writes (TooLong which) = false
+writes NoMemory = false
+
+-- whether a status says that no world was driven: each but the two that write, and want of memory
+abbrev pub has_no_world : Status → Bool
+has_no_world Done = false
+has_no_world Usage = true
+has_no_world (BadVolume at kind) = true
+has_no_world (BadText line kind) = true
+has_no_world (ReadFault which) = true
+has_no_world WriteFault = false
+has_no_world (TooLong which) = true
+has_no_world NoMemory = false

@@ -2,15 +2,23 @@
 ghost use Rattle.std.specs.Prelude.{◌≡◌};
 ghost use Rattle.mm_run.specs.Status.{number_of_status, status_of_read};
 
-use mm_base::{NoMemory, TextKind};
+use mm_base::{NoMemory, TextKind, VolumeKind};
 use mm_io::ReadEnd;
 use mm_text::TextEnd;
+use volume_reader::VolumeEnd;
 
 /// The two sources that a form may name.
 #[derive(Clone, Copy, Debug, PartialEq, Eq)]
 pub enum Which {
     First,
     Second,
+}
+
+/// What of a volume is refused.
+#[derive(Clone, Copy, Debug, PartialEq, Eq)]
+pub enum BadKind {
+    /// The volume itself, for this.
+    Volume(VolumeKind),
 }
 
 /// How a run ended. Its number is the program's exit status.
@@ -20,6 +28,8 @@ pub enum Status {
     Done,
     /// The words are no form that the program serves.
     Usage,
+    /// The volume is refused at this place, counted in bytes from 0.
+    BadVolume { at: u32, kind: BadKind },
     /// The text of a source is refused at this line, counted from 1.
     BadText { line: u32, kind: TextKind },
     /// A source could not be read.
@@ -33,13 +43,14 @@ pub enum Status {
 }
 
 impl Status {
-    /// The exit status: 0 where all went well, and 2 for a damaged volume, which no form reads yet.
+    /// The exit status: 0 where all went well.
     pub fn number(&self) -> u8
         ensures { result ≡ number_of_status self.now }
     {
         match self {
             Status::Done => 0,
             Status::Usage => 1,
+            Status::BadVolume { .. } => 2,
             Status::BadText { .. } => 3,
             Status::ReadFault(_) => 4,
             Status::WriteFault => 5,
@@ -82,6 +93,22 @@ impl From<TextEnd> for Status {
                 kind: fault.kind,
             },
             TextEnd::NoMemory => Status::NoMemory,
+        }
+    }
+}
+
+impl From<VolumeEnd> for Status {
+    ghost use Rattle.mm_run.specs.Status.{status_of_volume};
+
+    ghost from_gives = { λ end status. status ≡ status_of_volume end };
+
+    fn from(end: VolumeEnd) -> Self {
+        match end {
+            VolumeEnd::Fault(fault) => Status::BadVolume {
+                at: fault.at,
+                kind: BadKind::Volume(fault.kind),
+            },
+            VolumeEnd::NoMemory => Status::NoMemory,
         }
     }
 }

@@ -6,7 +6,10 @@ use Rattle.hex.specs.Hex.{encode_lower, encode_with, lower_digits}
 use Rattle.mm_base.specs.Numbers.{bytes_of_word, bytes_of_words}
 use Rattle.mm_text.specs.Adds.{Adds}
 use Rattle.mm_base.specs.declared.entry.Entry.{Entry}
+use Rattle.mm_base.specs.declared.volume.File.{File}
+use Rattle.mm_core.specs.declared.file_word.FileWord.{FileWord}
 use Rattle.mm_text.specs.Report.{bytes_text, entry_lines, entries_lines, lane_line, lanes_lines}
+use Rattle.mm_text.specs.VolumeLines.{file_line, first_line, files_lines}
 
 infixl 5 ◌▸◌
 -- one piece behind another
@@ -72,3 +75,14 @@ pub lanes_lines-turn : (lanes : List (List ℕ)) (l : ℕ) (lane : List ℕ) (wh
 lanes_lines-turn lanes l lane whole {old} {now} within is left adds =
     let rest : drop l lanes ≡ lane ∷ drop (l + 1) lanes = drop_more lanes l lane within ∙ ap (λ y. y ∷ drop (l + 1) lanes) (sym is) in
     left_behind (lanes_lines (l + 1) (drop (l + 1) lanes)) whole adds (ap (λ ys. old ++ lanes_lines l ys) (sym rest) ∙ left)
+
+-- one turn of the loop that puts each file's line
+pub files_lines-turn : (files : List File) (words : List FileWord) (k : ℕ) (file : File) (word : FileWord) (whole : List ℕ) {old now : List ℕ}
+    → k < length files → length words ≡ length files → old ++ files_lines (drop k files) (drop k words) ≡ whole
+    → Adds old (file_line (get_or files k file) (get_or words k word)) now
+    → now ++ files_lines (drop (k + 1) files) (drop (k + 1) words) ≡ whole
+files_lines-turn files words k file word whole {old} {now} within same left adds =
+    let here : drop k files ≡ get_or files k file ∷ drop (k + 1) files = drop_more files k file within in
+    let there : drop k words ≡ get_or words k word ∷ drop (k + 1) words = drop_more words k word (omega arith) in
+    left_behind (files_lines (drop (k + 1) files) (drop (k + 1) words)) whole adds
+    (ap (λ text. old ++ text) (λ i. files_lines (sym here i) (sym there i)) ∙ left)

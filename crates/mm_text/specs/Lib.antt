@@ -7,3 +7,4 @@ pub mod Report
 pub mod ScriptReader
 pub mod ScriptText
 pub mod TextLaws
+pub mod VolumeLines

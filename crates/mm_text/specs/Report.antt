@@ -1,9 +1,10 @@
--- The report: what is written of a run's entries, in recorded order, and of its lanes behind them. Each line ends with
--- a line feed (byte 10, the last byte of each line's definition).
-use Rattle.std.specs.Prelude.{ℕ, ◌+◌, ◌≤◌, ◌==◌, if◌then◌else◌, List, [], ◌∷◌, ◌++◌, length, drop, slice_index, codes, All, Option, Some, None}
+-- The report: what is written of a volume and its files, of a run's entries, in recorded order, and of its lanes behind them.
+-- Each line ends with a line feed (byte 10, the last byte of each line's definition).
+use Rattle.std.specs.Prelude.{◌≡◌, ℕ, ◌+◌, ◌≤◌, ◌==◌, if◌then◌else◌, List, [], ◌∷◌, ◌++◌, length, drop, slice_index, codes, All, Option, Some, None}
 use Rattle.std.specs.Fmt.{decimal}
 use Rattle.std.specs.Int.{to_be_bytes, w64}
 use Rattle.std.specs.List.{flat_map, list_all}
+use Rattle.std.specs.Option.{option_copied}
 use Rattle.hex.specs.Hex.{encode_lower}
 use Rattle.mm_base.specs.Guid.{guid_text}
 use Rattle.mm_base.specs.Numbers.{bytes_of_words, words_for}
@@ -26,7 +27,12 @@ use Rattle.mm_base.specs.declared.invocation.Ended.TheVariants.{Returned, Denied
 use Rattle.mm_base.specs.declared.invocation.FaultKind.{FaultKind}
 use Rattle.mm_base.specs.declared.invocation.FaultKind.TheVariants.{Encoding, Divide, Alignment, Break, NativeCall}
 use Rattle.mm_base.specs.declared.invocation.Invocation.{Invocation}
+use Rattle.mm_base.specs.declared.volume.File.{File}
+use Rattle.mm_base.specs.declared.volume.Volume.{Volume}
 use Rattle.mm_core.specs.CommunicateHeader.{is_lawful}
+use Rattle.mm_core.specs.declared.file_word.FileWord.{FileWord}
+use Rattle.mm_text.specs.VolumeLines.{volume_line, files_lines}
+use Rattle.mm_text.specs.declared.report_text.Parts.{Parts}
 
 -- a word of 64 bits as sixteen hexadecimal digits, the highest first
 unfoldable pub x16 : ℕ → List ℕ
@@ -169,12 +175,40 @@ abbrev pub part_lines : {X : Type 0} → (X → List ℕ) → Option X → List 
 part_lines lines None = []
 part_lines lines (Some part) = lines part
 
--- The report of the parts that are there: the entries in recorded order, and then the lanes, whose words are the length, the
--- status, and then the data.
-unfoldable pub report_of : Option (List Entry) → Option (List (List ℕ)) → List ℕ
-report_of entries lanes = part_lines (entries_lines 0) entries ++ part_lines (lanes_lines 0) lanes
+-- What a report tells of, each part if it is there: a volume, the words of its files, entries in recorded order, and lanes, each
+-- with its length, its status and then its data.
+pub record Reported : Type 0 where
+  pub volume : Option Volume
+  pub words : Option (List FileWord)
+  pub entries : Option (List Entry)
+  pub lanes : Option (List (List ℕ))
+
+-- the files of a volume, if it is there
+abbrev pub files_of : Option Volume → List File
+files_of None = []
+files_of (Some volume) = volume.files
+
+-- The report of the parts that are there, in this order.
+unfoldable pub report_of : Reported → List ℕ
+report_of parts =
+    part_lines volume_line parts.volume ++ part_lines (files_lines (files_of parts.volume)) parts.words
+    ++ part_lines (entries_lines 0) parts.entries ++ part_lines (lanes_lines 0) parts.lanes
 
 -- each lane has a length word and a status word
 abbrev pub HaveFrontWords : Option (List (List ℕ)) → Type 0
 HaveFrontWords None = Unit {0}
 HaveFrontWords (Some lanes) = All (λ lane. 2 ≤ length lane) lanes
+
+-- words stand beside a volume, one for each of its files
+abbrev pub StandBeside : Option Volume → Option (List FileWord) → Type 0
+StandBeside volume None = Unit {0}
+StandBeside volume (Some words) = length words ≡ length (files_of volume)
+
+-- what the parts of a command tell
+abbrev pub reported : Parts → Reported
+reported parts = record {
+  volume = option_copied parts.volume;
+  words = option_copied parts.words;
+  entries = option_copied parts.entries;
+  lanes = option_copied parts.lanes;
+}

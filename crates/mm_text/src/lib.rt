@@ -14,6 +14,7 @@ mod report_text;
 mod script_builder;
 mod script_reader;
 mod text_end;
+mod volume_text;
 
 pub use line::{CellKind, Keyword, Line, Named};
 pub use report_text::{Parts, report};

@@ -4,6 +4,7 @@ ghost use Rattle.std.specs.Fmt.{decimal};
 ghost use Rattle.hex.specs.Hex.{encode_lower};
 ghost use Rattle.mm_text.specs.Adds.{Adds};
 ghost use Rattle.mm_text.specs.Report.{x16, bytes_text};
+ghost use Rattle.mm_text.specs.VolumeLines.{x8};
 
 use mm_base::{Bytes, List, NoMemory};
 use std::alloc::Global;
@@ -72,6 +73,16 @@ impl Page {
     {
         let mut digits = [0; 16];
         let _ = hex::encode_to_slice(word.to_be_bytes(), &mut digits);
+        self.text.extend(&digits)
+    }
+
+    /// Puts a number of 32 bits as eight hexadecimal digits at the end.
+    #[tactic(auto, unfolding(crate::specs::VolumeLines::x8))]
+    pub fn put_x8(&mut self, number: u32) -> Result<(), NoMemory>
+        ensures { OnOk result (Adds self.old (x8 number) self.new) }
+    {
+        let mut digits = [0; 8];
+        let _ = hex::encode_to_slice(number.to_be_bytes(), &mut digits);
         self.text.extend(&digits)
     }
 

@@ -5,16 +5,23 @@ ghost use Rattle.std.specs.Option.{option_copied};
 ghost use Rattle.hex.specs.Hex.{encode_lower};
 ghost use Rattle.mm_base.specs.Numbers.{bytes_of_word, bytes_of_words};
 ghost use Rattle.mm_text.specs.Adds.{Adds};
-ghost use Rattle.mm_text.specs.Report.{bytes_text, entries_lines, lane_line, lanes_lines, part_lines, report_of, HaveFrontWords};
+ghost use Rattle.mm_text.specs.Report.{bytes_text, entries_lines, lane_line, lanes_lines, part_lines, files_of, report_of, reported, HaveFrontWords, StandBeside};
+ghost use Rattle.mm_text.specs.VolumeLines.{volume_line, files_lines};
 
 use crate::entry_text::put_entry;
 use crate::page::Page;
-use mm_base::{Bytes, Entries, Entry, List, NoMemory};
+use crate::volume_text::{put_files, put_volume};
+use mm_base::{Bytes, Entries, Entry, List, NoMemory, Volume};
+use mm_core::FileWord;
 use std::alloc::Global;
 
 /// What a command reports. The report has the lines of the parts that are there.
 #[derive(Clone, Copy)]
 pub struct Parts<'a> {
+    /// The volume.
+    pub volume: Option<&'a Volume>,
+    /// What each of its files is taken for.
+    pub words: Option<&'a List<FileWord>>,
     /// The entries, in recorded order.
     pub entries: Option<&'a Entries>,
     /// All words of each lane: the length, the status, and then the data.
@@ -23,13 +30,53 @@ pub struct Parts<'a> {
 
 /// The report of these parts. It costs as many steps as the text has bytes, and a reference an entry.
 pub fn report(alloc: Global, parts: &Parts) -> Result<Bytes, NoMemory>
-    requires { HaveFrontWords (option_copied parts.now.lanes) }
-    ensures { IfOk result (λ bytes. bytes ≡ report_of (option_copied parts.now.entries) (option_copied parts.now.lanes)) }
+    requires words { StandBeside (option_copied parts.now.volume) (option_copied parts.now.words) }
+    requires lanes { HaveFrontWords (option_copied parts.now.lanes) }
+    ensures { IfOk result (λ bytes. bytes ≡ report_of (reported parts.now)) }
 {
     let mut page = Page::new(alloc);
+    put_volume_part(&mut page, parts.volume)?;
+    put_files_part(&mut page, parts.volume, parts.words)?;
     put_entries_part(&mut page, alloc, parts.entries)?;
     put_lanes_part(&mut page, parts.lanes)?;
     Ok(page.into_bytes())
+}
+
+fn put_volume_part(page: &mut Page, volume: Option<&Volume>) -> Result<(), NoMemory>
+    ensures { OnOk result (Adds page.old (part_lines volume_line (option_copied volume.entry)) page.new) }
+{
+    match volume {
+        None => page.put(b""),
+        Some(volume) => put_volume(page, volume),
+    }
+}
+
+fn put_files_part(
+    page: &mut Page,
+    volume: Option<&Volume>,
+    words: Option<&List<FileWord>>,
+) -> Result<(), NoMemory>
+    requires { StandBeside (option_copied volume) (option_copied words) }
+    ensures { OnOk result (Adds page.old (part_lines (files_lines (files_of (option_copied volume.entry))) (option_copied words.entry)) page.new) }
+{
+    match words {
+        None => page.put(b""),
+        Some(words) => put_files_of(page, volume, words.as_slice()),
+    }
+}
+
+fn put_files_of(
+    page: &mut Page,
+    volume: Option<&Volume>,
+    words: &[FileWord],
+) -> Result<(), NoMemory>
+    requires { length words.now ≡ length (files_of (option_copied volume)) }
+    ensures { OnOk result (Adds page.old (files_lines (files_of (option_copied volume.entry)) words.now) page.new) }
+{
+    match volume {
+        None => page.put(b""),
+        Some(volume) => put_files(page, volume.files.as_slice(), words),
+    }
 }
 
 fn put_entries_part(

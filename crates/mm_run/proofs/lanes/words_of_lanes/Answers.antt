@@ -1,7 +1,7 @@
 use Rattle.std.proofs.Common.{◌≡◌, ◌+◌, ◌++◌, ◌∷◌, [], ◌∙◌, List, ℕ, length, ap, sym, subst, arith}
 use Rattle.std.specs.List.{All}
 use Rattle.std.proofs.lemmas.List.Elements.{All-push}
-use Rattle.mm_run.proofs.RunLemmas.{values_more}
+use Rattle.mm_run.proofs.ScriptLemmas.{values_more}
 use Rattle.mm_run.proofs.lanes.words_of_lanes.Goals as goal
 
 -- the words of one lane more

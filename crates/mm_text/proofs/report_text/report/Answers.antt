@@ -5,4 +5,7 @@ use Rattle.mm_text.proofs.report_text.report.Goals as goal
 
 pub returns : goal.returns
 unfolding report_of
-returns c = c.into_bytes.ensures ∙ (c.in_ok-put_entries_part.ensures ▸ c.in_ok-put_lanes_part.ensures).is ∙ rw c.new-page.ensures refl
+returns c =
+    c.into_bytes.ensures
+    ∙ (c.in_ok-put_volume_part.ensures ▸ c.in_ok-put_files_part.ensures ▸ c.in_ok-put_entries_part.ensures ▸ c.in_ok-put_lanes_part.ensures).is
+    ∙ rw c.new-page.ensures refl

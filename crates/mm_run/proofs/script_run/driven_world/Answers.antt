@@ -1,7 +1,7 @@
 use Rattle.std.proofs.Common.{◌∙◌, ap, sum_by, arith}
 use Rattle.comm_core.specs.World.{rings_in}
-use Rattle.mm_run.proofs.RunLemmas.{all_of_world, stands_for_script}
-use Rattle.mm_run.proofs.top_call.driven_world.Goals as goal
+use Rattle.mm_run.proofs.ScriptLemmas.{all_of_world, stands_for_script}
+use Rattle.mm_run.proofs.script_run.driven_world.Goals as goal
 
 pub drive-requires-clause-there : goal.drive-requires-clause-there
 drive-requires-clause-there c =

@@ -1,0 +1,19 @@
+-- What a run of the program makes of a volume.
+use Rattle.std.specs.Prelude.{◌≡◌, ℕ, List, Some, None}
+use Rattle.mm_base.specs.declared.volume.Volume.{Volume}
+use Rattle.volume_reader.specs.VolumeGrammar.{IsVolume}
+use Rattle.mm_core.specs.Catalog.{AreWords}
+use Rattle.mm_core.specs.declared.file_word.FileWord.{FileWord}
+use Rattle.mm_text.specs.Report.{report_of}
+
+-- the report of a volume and the words of its files
+abbrev pub volume_report : Volume → List FileWord → List ℕ
+volume_report volume words = report_of (record { volume = Some volume; words = Some words; entries = None; lanes = None })
+
+-- This is the report of the volume that bytes are: its line, and a line for each of its files with the file's word.
+pub record IsVolumeReport (bytes text : List ℕ) : Type 0 where
+  pub volume : Volume
+  pub is : IsVolume bytes volume
+  pub words : List FileWord
+  pub are : AreWords bytes volume.files words
+  pub reported : text ≡ volume_report volume words

@@ -1,0 +1,62 @@
+//! What a run makes of a script.
+ghost use Rattle.std.specs.Prelude.{◌≡◌, ◌≤◌, Some, true, IfOk, IfErr, length};
+ghost use Rattle.mm_core.specs.EntryStep.{core_step};
+ghost use Rattle.mm_text.specs.Limits.{IsWithinLimits};
+ghost use Rattle.mm_text.specs.ScriptText.{IsScript};
+ghost use Rattle.comm_core.specs.World.{StandsFor};
+ghost use Rattle.mm_run.specs.ScriptRun.{core_of, IsDriven};
+ghost use Rattle.mm_run.specs.Run.{IsDrivenBy, IsMadeOfScript, RefusesBytes};
+ghost use Rattle.mm_run.specs.declared.command.Command.TheVariants.{Script as ScriptCommand};
+
+use crate::drive::drive;
+use crate::lanes::words_of_lanes;
+use crate::status::Status;
+use crate::top_call::Made;
+use comm_core::{Script, World};
+use mm_base::NoMemory;
+use mm_core::{Core, scripted};
+use mm_text::{Parts, read_script, report};
+use std::alloc::Global;
+
+/// The world that the script in these bytes drives, and its report.
+pub(crate) fn run_script(alloc: Global, bytes: &[u8]) -> Result<Made, Status>
+    requires { length bytes.now ≤ 4194304 }
+    ensures ok { IfOk result (IsMadeOfScript bytes.now) }
+    ensures err { IfErr result (RefusesBytes ScriptCommand bytes.now) }
+{
+    let script = read_script(alloc, bytes, true)?;
+    Ok(driven(alloc, &script)?)
+}
+
+/// The world that the script drives, and its report.
+fn driven(alloc: Global, script: &Script) -> Result<Made, NoMemory>
+    requires { IsWithinLimits script.now }
+    ensures { IfOk result (IsDrivenBy script.now) }
+{
+    let world = driven_world(alloc, script)?;
+    let lanes = words_of_lanes(alloc, &world)?;
+    let parts = Parts {
+        volume: None,
+        words: None,
+        entries: Some(world.entries()),
+        lanes: Some(&lanes),
+    };
+    let text = report(alloc, &parts)?;
+    Ok(Made {
+        world: Some(world),
+        text,
+    })
+}
+
+/// The world that the script drives.
+fn driven_world(alloc: Global, script: &Script) -> Result<World<Core>, NoMemory>
+    requires { IsWithinLimits script.now }
+    ensures stands { IfOk result (StandsFor core_step (core_of script.now) script.now.events) }
+    ensures words { IfOk result (λ world. world.words ≡ script.now.words) }
+    ensures lanes { IfOk result (λ world. length world.lanes ≡ script.now.lanes) }
+{
+    let core = scripted(alloc, &script.opening, &script.handlers)?;
+    let mut world = World::new(alloc, core, script.lanes, script.words)?;
+    drive(&mut world, script.events.as_slice())?;
+    Ok(world)
+}
