@@ -1,6 +1,7 @@
 pub mod FileHeader
 pub mod Finding
 pub mod Sections
+pub mod Sums
 pub mod VolumeGrammar
 pub mod VolumeHeader
 pub mod VolumeLaws

@@ -3,9 +3,9 @@
 
 mod area;
 mod bytes;
+mod file_state;
 mod header;
 pub mod laws;
-mod life;
 mod reading;
 mod section_of_file;
 #[cfg(test)]
