@@ -78,15 +78,15 @@ abbrev pub is_pad : Area → ℕ → Bool
 is_pad area at = kind_at area at == 0xf0
 
 -- the bytes behind the header
-abbrev pub body_at : Area → ℕ → List ℕ
-body_at area at = take (size_at area at - header_size area at) (drop (at + header_size area at) area.bytes)
+abbrev pub file_body : Area → ℕ → List ℕ
+file_body area at = take (size_at area at - header_size area at) (drop (at + header_size area at) area.bytes)
 
 -- whether the body is sound: with FFS_ATTRIB_CHECKSUM it sums up to 0 in 8 bits with IntegrityCheck.Checksum.File, without it that
 -- is FFS_FIXED_CHECKSUM
 abbrev pub is_sound : Area → ℕ → Bool
 is_sound area at =
     is_pad area at
-    || (if has_bit (attributes_at area at) 0x40 then sum_in_8_bits (file_checksum_at area at ∷ body_at area at) == 0 else file_checksum_at area at == 0xaa)
+    || (if has_bit (attributes_at area at) 0x40 then sum_in_8_bits (file_checksum_at area at ∷ file_body area at) == 0 else file_checksum_at area at == 0xaa)
 
 -- the file at a place: its name, its type, its size, where its body stands, and whether this is sound
 abbrev pub file_at : Area → ℕ → File

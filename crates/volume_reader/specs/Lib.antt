@@ -1,3 +1,4 @@
+pub mod Contents
 pub mod FileHeader
 pub mod Finding
 pub mod Sections
