@@ -4,8 +4,8 @@ use Rattle.std.proofs.Math.ListN.{set}
 use Rattle.std.proofs.lemmas.List.{length-set, get_or-set_other}
 use Rattle.std.proofs.lemmas.List.Sums.{sum_by-set}
 use Rattle.std.proofs.lemmas.Bool.Decides.{nat_tests}
-use Rattle.volume_reader.specs.FileHeader.{Area, has_room, life_at}
-use Rattle.volume_reader.specs.declared.life.Life.TheVariants.{Valid, BeingReplaced}
+use Rattle.volume_reader.specs.FileHeader.{Area, has_room, state_at}
+use Rattle.volume_reader.specs.declared.file_state.FileState.TheVariants.{DataValid, MarkedForUpdate}
 use Rattle.volume_reader.specs.VolumeGrammar.{Counts}
 use Rattle.volume_reader.specs.Finding.{Finds, FindsFile, listed}
 use Rattle.volume_reader.specs.declared.area.Found.{Found}
@@ -25,12 +25,12 @@ header_sum header long =
     sums_agree (sum header) (sum (set (set header 17 0) 23 0)) (get_or header 17 0) (get_or header 23 0) (omega arith)
 
 -- a file that counts
-pub finds_counting : (area : Area) (at : ℕ) (found : Found) → has_room area at 24 ≡ true → (life_at area at ≡ Valid) ⊎ (life_at area at ≡ BeingReplaced)
+pub finds_counting : (area : Area) (at : ℕ) (found : Found) → has_room area at 24 ≡ true → (state_at area at ≡ DataValid) ⊎ (state_at area at ≡ MarkedForUpdate)
     → FindsFile area at true found → Finds area at found
-finds_counting area at End room life found = absurd found
-finds_counting area at (Refused kind) room (inl life) found =
+finds_counting area at End room state found = absurd found
+finds_counting area at (Refused kind) room (inl state) found =
     (record { room = room; written = λ e. cc; not_constructed = λ e. cc; not_invalid = λ e. cc }, found)
-finds_counting area at (Refused kind) room (inr life) found =
+finds_counting area at (Refused kind) room (inr state) found =
     (record { room = room; written = λ e. cc; not_constructed = λ e. cc; not_invalid = λ e. cc }, found)
-finds_counting area at (Behind next file) room life found =
-    record { span = Counts; stands = (found.0, life); behind = found.1; files = ap listed found.2 }
+finds_counting area at (Behind next file) room state found =
+    record { span = Counts; stands = (found.0, state); behind = found.1; files = ap listed found.2 }

@@ -3,7 +3,7 @@ use Rattle.std.proofs.Common.{◌≡◌, ℕ, suc, ◌+◌, ◌*◌, ◌%◌, �
 use Rattle.std.proofs.Math.Seq.{drop-cons}
 use Rattle.std.proofs.lemmas.List.{drop_all}
 use Rattle.std.proofs.lemmas.List.Sums.{sum_by_more}
-use Rattle.volume_reader.specs.VolumeHeader.{sum_of_words}
+use Rattle.volume_reader.specs.Sums.{sum_of_words}
 
 -- the words from a place on are the one there and the others
 pub sum_of_words-more : (xs : List ℕ) (k : ℕ) → suc k < length xs

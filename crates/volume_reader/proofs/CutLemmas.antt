@@ -6,8 +6,9 @@ use Rattle.std.proofs.lemmas.Bool.Decides.{nat_tests}
 use Rattle.mm_base.specs.declared.volume.Volume.{Volume}
 use Rattle.mm_base.proofs.CheckLemmas.{all_pass, none_fails}
 use Rattle.mm_base.specs.Numbers.{number_of, number_at, has_bit}
-use Rattle.volume_reader.specs.VolumeHeader.{checks, first_failing, header_length, volume_length, ext_header, ext_size, ext_header_fits, file_system, ffs2_guid, ffs3_guid, sum_of_words, first_place, up_to_8, erases_to_ones}
+use Rattle.volume_reader.specs.VolumeHeader.{checks, first_failing, header_length, volume_length, ext_header, ext_size, ext_header_fits, file_system, ffs2_guid, ffs3_guid, first_place, up_to_8, erase_polarity}
 use Rattle.volume_reader.specs.FileHeader.{Area}
+use Rattle.volume_reader.specs.Sums.{sum_in_16_bits}
 use Rattle.volume_reader.specs.VolumeGrammar.{IsVolume, area_of, Leads, EndsAt, files_in}
 use Rattle.volume_reader.proofs.HeaderLemmas.{passed, ext_in}
 
@@ -102,7 +103,7 @@ passes_cut bytes cut none far within =
         (
           (λ i. nat_le 64 (header i) && (header i % 2 == 0) && nat_le (header i) (long i)) ∙ shape,
           (
-            (λ i. sum_of_words (take (header i) (take cut bytes)) % 65536 == 0) ∙ ap (λ (xs : List ℕ). sum_of_words xs % 65536 == 0) front ∙ pass.1.1.1.0,
+            (λ i. sum_in_16_bits (take (header i) (take cut bytes)) == 0) ∙ ap (λ (xs : List ℕ). sum_in_16_bits xs == 0) front ∙ pass.1.1.1.0,
             (
               ap (λ n. n == 2) (number bytes cut 55 1 (omega arith)) ∙ pass.1.1.1.1.0,
               (
@@ -124,10 +125,10 @@ same_past_end bytes cut volume is far within =
     let fixed : 64 ≤ cut = omega (arith, p.least, p.header) in
     let long = number bytes cut 32 8 (omega arith) in
     let system = ap (λ (guid : List ℕ). bytes_eq guid ffs3_guid) (part bytes cut 16 16 (omega arith)) in
-    let ones : erases_to_ones (take cut bytes) ≡ erases_to_ones bytes = ap (λ n. has_bit n 0x800) (number bytes cut 44 4 (omega arith)) in
+    let polarity : erase_polarity (take cut bytes) ≡ erase_polarity bytes = ap (λ n. has_bit n 0x800) (number bytes cut 44 4 (omega arith)) in
     let inside : take (volume_length (take cut bytes)) (take cut bytes) ≡ take (volume_length bytes) bytes
     = ap (λ n. take n (take cut bytes)) long ∙ take_cut bytes (volume_length bytes) cut far in
-    let area : area_of (take cut bytes) ≡ area_of bytes = λ i. record { bytes = inside i; ffs3 = system i; ones = ones i } in
+    let area : area_of (take cut bytes) ≡ area_of bytes = λ i. record { bytes = inside i; ffs3 = system i; erase_polarity = polarity i } in
     let first = first_same bytes cut is.header far fixed in
     let P : Area → Type 0 = λ area. Leads area (first_place (take cut bytes)) is.spans is.end in
     let Q : ℕ → Type 0 = λ first. Leads (area_of bytes) first is.spans is.end in

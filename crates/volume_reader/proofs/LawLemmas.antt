@@ -6,13 +6,13 @@ use Rattle.mm_base.specs.declared.volume.File.{File}
 use Rattle.mm_base.specs.declared.volume.Volume.{Volume}
 use Rattle.mm_base.specs.declared.volume.VolumeKind.{VolumeKind}
 use Rattle.mm_base.specs.declared.volume.VolumeKind.TheVariants.{FileSum, FileSize}
-use Rattle.volume_reader.specs.declared.life.Life.{Life}
-use Rattle.volume_reader.specs.declared.life.Life.TheVariants.{Unwritten, UnderConstruction, HeaderOnly, Valid, BeingReplaced, Deleted, HeaderInvalid}
+use Rattle.volume_reader.specs.declared.file_state.FileState.{FileState}
+use Rattle.volume_reader.specs.declared.file_state.FileState.TheVariants.{Free, HeaderConstruction, HeaderValid, DataValid, MarkedForUpdate, Deleted, HeaderInvalid}
 use Rattle.volume_reader.specs.declared.reading.VolumeFault.{VolumeFault}
 use Rattle.volume_reader.specs.declared.reading.VolumeEnd.{VolumeEnd}
 use Rattle.volume_reader.specs.declared.reading.VolumeEnd.TheVariants.{Fault, NoMemory}
-use Rattle.volume_reader.specs.VolumeHeader.{first_failing, first_place, volume_length, is_ffs3, erases_to_ones}
-use Rattle.volume_reader.specs.FileHeader.{Area, has_room, life_at, is_large, says_large, header_sum_is_zero, size_fits}
+use Rattle.volume_reader.specs.VolumeHeader.{first_failing, first_place, volume_length, is_ffs3, erase_polarity}
+use Rattle.volume_reader.specs.FileHeader.{Area, has_room, state_at, is_large, says_large, header_sum_is_zero, size_fits}
 use Rattle.volume_reader.specs.VolumeGrammar.{area_of, Span, HeaderAlone, Gone, Counts, EndsAt, HasHeader, StandsAt, Leads, place_behind, files_in, IsWritten, IsBadAt, IsRefusedAt, IsVolume, HasFault}
 use Rattle.volume_reader.specs.Finding.{EndsBy, AreFiles}
 use Rattle.volume_reader.proofs.WalkLemmas.{moves_on}
@@ -39,55 +39,55 @@ bad_header_or_good area at kind good (inr (is, inr bad)) =
     cc
 
 ends_or_stands : (area : Area) (at : ℕ) (span : Span) → EndsAt area at → StandsAt area at span → ⊥
-ends_or_stands area at HeaderAlone (inl none) (room, life) = let e : true ≡ false = cc in cc
-ends_or_stands area at HeaderAlone (inr none) (room, inl life) = let e : Unwritten ≡ UnderConstruction = cc in cc
-ends_or_stands area at HeaderAlone (inr none) (room, inr life) = let e : Unwritten ≡ HeaderInvalid = cc in cc
-ends_or_stands area at Gone (inl none) (header, life) = let room = header.room in let e : true ≡ false = cc in cc
-ends_or_stands area at Gone (inr none) (header, inl life) = let e : Unwritten ≡ HeaderOnly = cc in cc
-ends_or_stands area at Gone (inr none) (header, inr life) = let e : Unwritten ≡ Deleted = cc in cc
-ends_or_stands area at Counts (inl none) (header, life) = let room = header.room in let e : true ≡ false = cc in cc
-ends_or_stands area at Counts (inr none) (header, inl life) = let e : Unwritten ≡ Valid = cc in cc
-ends_or_stands area at Counts (inr none) (header, inr life) = let e : Unwritten ≡ BeingReplaced = cc in cc
+ends_or_stands area at HeaderAlone (inl none) (room, state) = let e : true ≡ false = cc in cc
+ends_or_stands area at HeaderAlone (inr none) (room, inl state) = let e : Free ≡ HeaderConstruction = cc in cc
+ends_or_stands area at HeaderAlone (inr none) (room, inr state) = let e : Free ≡ HeaderInvalid = cc in cc
+ends_or_stands area at Gone (inl none) (header, state) = let room = header.room in let e : true ≡ false = cc in cc
+ends_or_stands area at Gone (inr none) (header, inl state) = let e : Free ≡ HeaderValid = cc in cc
+ends_or_stands area at Gone (inr none) (header, inr state) = let e : Free ≡ Deleted = cc in cc
+ends_or_stands area at Counts (inl none) (header, state) = let room = header.room in let e : true ≡ false = cc in cc
+ends_or_stands area at Counts (inr none) (header, inl state) = let e : Free ≡ DataValid = cc in cc
+ends_or_stands area at Counts (inr none) (header, inr state) = let e : Free ≡ MarkedForUpdate = cc in cc
 
 refused_or_stands : (area : Area) (at : ℕ) (kind : VolumeKind) (span : Span) → IsRefusedAt area at kind → StandsAt area at span → ⊥
-refused_or_stands area at kind HeaderAlone (written, bad) (room, inl life) = written.not_constructed life
-refused_or_stands area at kind HeaderAlone (written, bad) (room, inr life) = written.not_invalid life
-refused_or_stands area at kind Gone (written, bad) (header, life) = bad_header_or_good area at kind header bad
-refused_or_stands area at kind Counts (written, bad) (header, life) = bad_header_or_good area at kind header bad
+refused_or_stands area at kind HeaderAlone (written, bad) (room, inl state) = written.not_constructed state
+refused_or_stands area at kind HeaderAlone (written, bad) (room, inr state) = written.not_invalid state
+refused_or_stands area at kind Gone (written, bad) (header, state) = bad_header_or_good area at kind header bad
+refused_or_stands area at kind Counts (written, bad) (header, state) = bad_header_or_good area at kind header bad
 
 ends_or_refused : (area : Area) (at : ℕ) (kind : VolumeKind) → EndsAt area at → IsRefusedAt area at kind → ⊥
 ends_or_refused area at kind (inl none) (written, bad) = let room = written.room in let e : true ≡ false = cc in cc
 ends_or_refused area at kind (inr none) (written, bad) = written.written none
 
--- the span that stands at a place with this life
+-- the span that stands at a place with this state
 one_span : (area : Area) (at : ℕ) (one other : Span) → StandsAt area at one → StandsAt area at other → one ≡ other
 one_span area at HeaderAlone HeaderAlone a b = refl
 one_span area at Gone Gone a b = refl
 one_span area at Counts Counts a b = refl
-one_span area at HeaderAlone Gone (room, inl a) (header, inl b) = let e : UnderConstruction ≡ HeaderOnly = cc in cc
-one_span area at HeaderAlone Gone (room, inl a) (header, inr b) = let e : UnderConstruction ≡ Deleted = cc in cc
-one_span area at HeaderAlone Gone (room, inr a) (header, inl b) = let e : HeaderInvalid ≡ HeaderOnly = cc in cc
+one_span area at HeaderAlone Gone (room, inl a) (header, inl b) = let e : HeaderConstruction ≡ HeaderValid = cc in cc
+one_span area at HeaderAlone Gone (room, inl a) (header, inr b) = let e : HeaderConstruction ≡ Deleted = cc in cc
+one_span area at HeaderAlone Gone (room, inr a) (header, inl b) = let e : HeaderInvalid ≡ HeaderValid = cc in cc
 one_span area at HeaderAlone Gone (room, inr a) (header, inr b) = let e : HeaderInvalid ≡ Deleted = cc in cc
-one_span area at HeaderAlone Counts (room, inl a) (header, inl b) = let e : UnderConstruction ≡ Valid = cc in cc
-one_span area at HeaderAlone Counts (room, inl a) (header, inr b) = let e : UnderConstruction ≡ BeingReplaced = cc in cc
-one_span area at HeaderAlone Counts (room, inr a) (header, inl b) = let e : HeaderInvalid ≡ Valid = cc in cc
-one_span area at HeaderAlone Counts (room, inr a) (header, inr b) = let e : HeaderInvalid ≡ BeingReplaced = cc in cc
-one_span area at Gone HeaderAlone (header, inl a) (room, inl b) = let e : HeaderOnly ≡ UnderConstruction = cc in cc
-one_span area at Gone HeaderAlone (header, inl a) (room, inr b) = let e : HeaderOnly ≡ HeaderInvalid = cc in cc
-one_span area at Gone HeaderAlone (header, inr a) (room, inl b) = let e : Deleted ≡ UnderConstruction = cc in cc
+one_span area at HeaderAlone Counts (room, inl a) (header, inl b) = let e : HeaderConstruction ≡ DataValid = cc in cc
+one_span area at HeaderAlone Counts (room, inl a) (header, inr b) = let e : HeaderConstruction ≡ MarkedForUpdate = cc in cc
+one_span area at HeaderAlone Counts (room, inr a) (header, inl b) = let e : HeaderInvalid ≡ DataValid = cc in cc
+one_span area at HeaderAlone Counts (room, inr a) (header, inr b) = let e : HeaderInvalid ≡ MarkedForUpdate = cc in cc
+one_span area at Gone HeaderAlone (header, inl a) (room, inl b) = let e : HeaderValid ≡ HeaderConstruction = cc in cc
+one_span area at Gone HeaderAlone (header, inl a) (room, inr b) = let e : HeaderValid ≡ HeaderInvalid = cc in cc
+one_span area at Gone HeaderAlone (header, inr a) (room, inl b) = let e : Deleted ≡ HeaderConstruction = cc in cc
 one_span area at Gone HeaderAlone (header, inr a) (room, inr b) = let e : Deleted ≡ HeaderInvalid = cc in cc
-one_span area at Gone Counts (header, inl a) (more, inl b) = let e : HeaderOnly ≡ Valid = cc in cc
-one_span area at Gone Counts (header, inl a) (more, inr b) = let e : HeaderOnly ≡ BeingReplaced = cc in cc
-one_span area at Gone Counts (header, inr a) (more, inl b) = let e : Deleted ≡ Valid = cc in cc
-one_span area at Gone Counts (header, inr a) (more, inr b) = let e : Deleted ≡ BeingReplaced = cc in cc
-one_span area at Counts HeaderAlone (header, inl a) (room, inl b) = let e : Valid ≡ UnderConstruction = cc in cc
-one_span area at Counts HeaderAlone (header, inl a) (room, inr b) = let e : Valid ≡ HeaderInvalid = cc in cc
-one_span area at Counts HeaderAlone (header, inr a) (room, inl b) = let e : BeingReplaced ≡ UnderConstruction = cc in cc
-one_span area at Counts HeaderAlone (header, inr a) (room, inr b) = let e : BeingReplaced ≡ HeaderInvalid = cc in cc
-one_span area at Counts Gone (header, inl a) (more, inl b) = let e : Valid ≡ HeaderOnly = cc in cc
-one_span area at Counts Gone (header, inl a) (more, inr b) = let e : Valid ≡ Deleted = cc in cc
-one_span area at Counts Gone (header, inr a) (more, inl b) = let e : BeingReplaced ≡ HeaderOnly = cc in cc
-one_span area at Counts Gone (header, inr a) (more, inr b) = let e : BeingReplaced ≡ Deleted = cc in cc
+one_span area at Gone Counts (header, inl a) (more, inl b) = let e : HeaderValid ≡ DataValid = cc in cc
+one_span area at Gone Counts (header, inl a) (more, inr b) = let e : HeaderValid ≡ MarkedForUpdate = cc in cc
+one_span area at Gone Counts (header, inr a) (more, inl b) = let e : Deleted ≡ DataValid = cc in cc
+one_span area at Gone Counts (header, inr a) (more, inr b) = let e : Deleted ≡ MarkedForUpdate = cc in cc
+one_span area at Counts HeaderAlone (header, inl a) (room, inl b) = let e : DataValid ≡ HeaderConstruction = cc in cc
+one_span area at Counts HeaderAlone (header, inl a) (room, inr b) = let e : DataValid ≡ HeaderInvalid = cc in cc
+one_span area at Counts HeaderAlone (header, inr a) (room, inl b) = let e : MarkedForUpdate ≡ HeaderConstruction = cc in cc
+one_span area at Counts HeaderAlone (header, inr a) (room, inr b) = let e : MarkedForUpdate ≡ HeaderInvalid = cc in cc
+one_span area at Counts Gone (header, inl a) (more, inl b) = let e : DataValid ≡ HeaderValid = cc in cc
+one_span area at Counts Gone (header, inl a) (more, inr b) = let e : DataValid ≡ Deleted = cc in cc
+one_span area at Counts Gone (header, inr a) (more, inl b) = let e : MarkedForUpdate ≡ HeaderValid = cc in cc
+one_span area at Counts Gone (header, inr a) (more, inr b) = let e : MarkedForUpdate ≡ Deleted = cc in cc
 
 -- what a place is refused for
 one_kind : (area : Area) (at : ℕ) (one other : VolumeKind) → IsBadAt area at one → IsBadAt area at other → one ≡ other
@@ -179,13 +179,13 @@ told_first bytes (Err NoMemory) ok err fault is = inr refl
 
 -- ---- what a header tells, and the files behind it, are a volume
 
-pub is_volume : (bytes inside : List ℕ) (ffs3 ones : Bool) (first : ℕ) (files : List File)
+pub is_volume : (bytes inside : List ℕ) (ffs3 erases : Bool) (first : ℕ) (files : List File)
     → first_failing bytes ≡ None → inside ≡ take (volume_length bytes) bytes → length inside ≡ volume_length bytes
-    → ffs3 ≡ is_ffs3 bytes → ones ≡ erases_to_ones bytes → first ≡ first_place bytes
-    → AreFiles (record { bytes = inside; ffs3 = ffs3; ones = ones }) first files
+    → ffs3 ≡ is_ffs3 bytes → erases ≡ erase_polarity bytes → first ≡ first_place bytes
+    → AreFiles (record { bytes = inside; ffs3 = ffs3; erase_polarity = erases }) first files
     → IsVolume bytes (record { length = length inside; ffs3 = ffs3; files = files })
-is_volume bytes inside ffs3 ones first files none is long system polarity place files_are =
-    let area : record { bytes = inside; ffs3 = ffs3; ones = ones } ≡ area_of bytes = λ i. record { bytes = is i; ffs3 = system i; ones = polarity i } in
+is_volume bytes inside ffs3 erases first files none is long system polarity place files_are =
+    let area : record { bytes = inside; ffs3 = ffs3; erase_polarity = erases } ≡ area_of bytes = λ i. record { bytes = is i; ffs3 = system i; erase_polarity = polarity i } in
     let P : Area → Type 0 = λ area. AreFiles area first files in
     let Q : ℕ → Type 0 = λ first. AreFiles (area_of bytes) first files in
     let there = subst Q place (subst P area files_are) in
@@ -237,21 +237,21 @@ standing area at = by_room (has_room area at 24) refl
     with_header span written stands (inl good) = Stands span (stands good)
     with_header span written stands (inr bad) = IsRefused bad.0 (written, bad.1)
 
-    by_life : has_room area at 24 ≡ true → (life : Life) → life_at area at ≡ life → Standing area at
-    by_life room Unwritten is = Ends (inr is)
-    by_life room UnderConstruction is = Stands HeaderAlone (room, inl is)
-    by_life room HeaderInvalid is = Stands HeaderAlone (room, inr is)
-    by_life room HeaderOnly is =
+    by_state : has_room area at 24 ≡ true → (state : FileState) → state_at area at ≡ state → Standing area at
+    by_state room Free is = Ends (inr is)
+    by_state room HeaderConstruction is = Stands HeaderAlone (room, inl is)
+    by_state room HeaderInvalid is = Stands HeaderAlone (room, inr is)
+    by_state room HeaderValid is =
         with_header Gone (record { room = room; written = λ e. cc; not_constructed = λ e. cc; not_invalid = λ e. cc }) (λ good. (good, inl is)) (good_or_bad area at room)
-    by_life room Deleted is =
+    by_state room Deleted is =
         with_header Gone (record { room = room; written = λ e. cc; not_constructed = λ e. cc; not_invalid = λ e. cc }) (λ good. (good, inr is)) (good_or_bad area at room)
-    by_life room Valid is =
+    by_state room DataValid is =
         with_header Counts (record { room = room; written = λ e. cc; not_constructed = λ e. cc; not_invalid = λ e. cc }) (λ good. (good, inl is)) (good_or_bad area at room)
-    by_life room BeingReplaced is =
+    by_state room MarkedForUpdate is =
         with_header Counts (record { room = room; written = λ e. cc; not_constructed = λ e. cc; not_invalid = λ e. cc }) (λ good. (good, inr is)) (good_or_bad area at room)
 
     by_room : (room : Bool) → has_room area at 24 ≡ room → Standing area at
-    by_room true is = by_life is (life_at area at) refl
+    by_room true is = by_state is (state_at area at) refl
     by_room false is = Ends (inl is)
 
 -- where spans lead to

@@ -5,3 +5,6 @@ pub mod WalkLemmas
 pub mod LawLemmas
 pub mod CutLemmas
 pub mod SectionLemmas
+pub mod ContentsLemmas
+pub mod CourseLemmas
+pub mod FileLemmas

@@ -24,7 +24,7 @@ same_at body begin at (x ∷ some) (y ∷ others) one other (suc index) s t a b 
     same_at body begin (section_behind body at) some others one other index s t a.3 b.3 is are
 
 -- where more sections stand, one stands behind fewer
-record Stands (body : List ℕ) (at : ℕ) : Type 0 where
+pub record Stands (body : List ℕ) (at : ℕ) : Type 0 where
   pub room : nat_le (at + 4) (length body) ≡ true
   pub section : has_section body at ≡ true
 
@@ -45,13 +45,13 @@ same_place body begin at (x ∷ some) [] one other a b e = absurd (omega arith)
 same_place body begin at (x ∷ some) (y ∷ others) one other a b e = same_place body begin (section_behind body at) some others one other a.3 b.3 (omega arith)
 
 -- a place where no section stands
-record Stop (body : List ℕ) (at : ℕ) : Type 0 where
+pub record Stop (body : List ℕ) (at : ℕ) : Type 0 where
   pub none : Stands body at → ⊥
 
-ends_stop : (body : List ℕ) (begin : ℕ) (sections : List Section) (are : AreSections body begin sections) → Stop body are.end
+pub ends_stop : (body : List ℕ) (begin : ℕ) (sections : List Section) (are : AreSections body begin sections) → Stop body are.end
 ends_stop body begin sections are = record { none = λ there. let a = there.room in let b = are.ends in let e : true ≡ false = sym a ∙ b in cc }
 
-refused_stop : (body : List ℕ) (begin : ℕ) (sections : List Section) (at : ℕ) → IsRefusedBehind body begin sections at → Stop body at
+pub refused_stop : (body : List ℕ) (begin : ℕ) (sections : List Section) (at : ℕ) → IsRefusedBehind body begin sections at → Stop body at
 refused_stop body begin sections at refused = record { none = λ there. let a = there.section in let b = refused.bad in let e : true ≡ false = sym a ∙ b in cc }
 
 -- two courses that stop have one end
@@ -137,7 +137,7 @@ fault_exactly body begin index (Err other) answered fault = (
 
 -- ---- how a walk comes to it
 
-leads-more : (body : List ℕ) (begin at : ℕ) (sections : List Section) (to : ℕ) → SectionsLead body begin at sections to → Stands body to
+pub leads-more : (body : List ℕ) (begin at : ℕ) (sections : List Section) (to : ℕ) → SectionsLead body begin at sections to → Stands body to
     → SectionsLead body begin at (sections ++ section_at body begin to ∷ []) (section_behind body to)
 leads-more body begin at [] to leads stands =
     let P : ℕ → Type 0 = λ place. SectionsLead body begin place (section_at body begin to ∷ []) (section_behind body to) in
@@ -160,14 +160,14 @@ last_of [] section = refl
 last_of (other ∷ sections) section = last_of sections section
 
 -- what a walk gives, by what stands at its place
-data Gives (walk : Walk) : Type 0 where
+pub data Gives (walk : Walk) : Type 0 where
   GivesSection : Stands walk.body walk.place → given_next walk ≡ Ok (Some (section_at walk.body walk.begin walk.place))
       → walked_on walk ≡ record walk { place = section_behind walk.body walk.place } → Gives walk
   GivesNone : nat_le (walk.place + 4) (length walk.body) ≡ false → given_next walk ≡ Ok None → Gives walk
   GivesFault : nat_le (walk.place + 4) (length walk.body) ≡ true → has_section walk.body walk.place ≡ false
       → given_next walk ≡ Err (record { at = walk.begin + walk.place }) → Gives walk
 
-gives : (walk : Walk) → Gives walk
+pub gives : (walk : Walk) → Gives walk
 gives walk = by_tests (nat_le (walk.place + 4) (length walk.body)) (has_section walk.body walk.place) refl refl
   where
     by_tests : (room section : Bool) → nat_le (walk.place + 4) (length walk.body) ≡ room → has_section walk.body walk.place ≡ section → Gives walk

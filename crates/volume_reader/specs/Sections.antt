@@ -1,4 +1,5 @@
--- The sections of a file: EFI_COMMON_SECTION_HEADER and EFI_COMMON_SECTION_HEADER2 of PI 1.8, volume 3.
+-- The sections of a file: EFI_COMMON_SECTION_HEADER and EFI_COMMON_SECTION_HEADER2 of PI 1.8, volume 3. All numbers stand with the
+-- lowest byte first.
 use Rattle.std.specs.Prelude.{◌≡◌, ◌≤◌, ℕ, ◌+◌, ◌-◌, ◌*◌, ◌/◌, Bool, true, false, if◌then◌else◌, ◌==◌, ◌&&◌, nat_le, List, [], ◌∷◌, length, take, drop, Option, Some, None, Result, Ok, Err}
 use Rattle.std.specs.List.{slice_get}
 use Rattle.mm_base.specs.declared.volume.File.{File}
@@ -10,13 +11,15 @@ use Rattle.mm_base.specs.Numbers.{number_at}
 abbrev pub body_of : List ℕ → File → List ℕ
 body_of bytes file = take file.body (drop file.body_at bytes)
 
--- whether the section at a place of a body has the longer header: its 3-byte size is FFFFFF, and the size stands in 4 bytes behind
+-- whether the section at a place of a body has an EFI_COMMON_SECTION_HEADER2, the longer header: its Size is FFFFFF
 abbrev pub is_extended : List ℕ → ℕ → Bool
 is_extended body at = number_at body at 3 == 0xffffff
 
+-- how many bytes the section's header has
 abbrev pub section_header : List ℕ → ℕ → ℕ
 section_header body at = if is_extended body at then 8 else 4
 
+-- how many bytes the section has with its header: ExtendedSize of a longer header, Size of another
 abbrev pub section_size : List ℕ → ℕ → ℕ
 section_size body at = if is_extended body at then number_at body (at + 4) 4 else number_at body at 3
 
@@ -26,7 +29,7 @@ has_section body at =
     nat_le (at + section_header body at) (length body) && nat_le (section_header body at) (section_size body at)
     && nat_le (at + section_size body at) (length body)
 
--- the section at a place of a body that begins at this place of the bytes: its data lie behind its header
+-- the section at a place of a body that begins at this place of the bytes: its Type, and its data, which lie behind its header
 abbrev pub section_at : List ℕ → ℕ → ℕ → Section
 section_at body begin at = record {
   kind = number_at body (at + 3) 1;
@@ -64,6 +67,21 @@ pub record IsRefusedBehind (body : List ℕ) (begin : ℕ) (sections : List Sect
   pub reached : Reaches body begin sections at
   pub there : nat_le (at + 4) (length body) ≡ true
   pub bad : has_section body at ≡ false
+
+-- Behind some sections of a body one is refused; the fault is at its header.
+pub record HasRefusal (body : List ℕ) (begin : ℕ) (fault : SectionFault) : Type 0 where
+  pub sections : List Section
+  pub at : ℕ
+  pub refused : IsRefusedBehind body begin sections at
+  pub place : fault.at ≡ begin + at
+
+-- The sections of a file are these.
+abbrev pub HasSections : List ℕ → File → List Section → Type 0
+HasSections bytes file sections = AreSections (body_of bytes file) file.body_at sections
+
+-- Behind some sections of a file one is refused.
+abbrev pub HasRefusedSection : List ℕ → File → SectionFault → Type 0
+HasRefusedSection bytes file fault = HasRefusal (body_of bytes file) file.body_at fault
 
 -- A walk over the sections of a body that begins at this place of the bytes: the next one is looked for at a place of the body.
 pub record Walk : Type 0 where

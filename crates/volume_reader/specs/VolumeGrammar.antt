@@ -5,18 +5,18 @@ use Rattle.mm_base.specs.declared.volume.File.{File}
 use Rattle.mm_base.specs.declared.volume.Volume.{Volume}
 use Rattle.mm_base.specs.declared.volume.VolumeKind.{VolumeKind}
 use Rattle.mm_base.specs.declared.volume.VolumeKind.TheVariants.{FileSum, FileSize}
-use Rattle.volume_reader.specs.VolumeHeader.{volume_length, is_ffs3, first_failing, first_place, erases_to_ones, up_to_8}
-use Rattle.volume_reader.specs.FileHeader.{Area, life_at, says_large, is_large, size_at, has_room, header_sum_is_zero, size_fits, file_at}
-use Rattle.volume_reader.specs.declared.life.Life.TheVariants.{Unwritten, UnderConstruction, HeaderOnly, Valid, BeingReplaced, Deleted, HeaderInvalid}
+use Rattle.volume_reader.specs.VolumeHeader.{volume_length, is_ffs3, first_failing, first_place, erase_polarity, up_to_8}
+use Rattle.volume_reader.specs.FileHeader.{Area, state_at, says_large, is_large, size_at, has_room, header_sum_is_zero, size_fits, file_at}
+use Rattle.volume_reader.specs.declared.file_state.FileState.TheVariants.{Free, HeaderConstruction, HeaderValid, DataValid, MarkedForUpdate, Deleted, HeaderInvalid}
 use Rattle.volume_reader.specs.declared.reading.VolumeFault.{VolumeFault}
 
 -- what files are read in, for these bytes of a volume
 abbrev pub area_of : List ℕ → Area
-area_of bytes = record { bytes = take (volume_length bytes) bytes; ffs3 = is_ffs3 bytes; ones = erases_to_ones bytes }
+area_of bytes = record { bytes = take (volume_length bytes) bytes; ffs3 = is_ffs3 bytes; erase_polarity = erase_polarity bytes }
 
 -- Where files end: fewer bytes than a header are left, or nothing was written there.
 abbrev pub EndsAt : Area → ℕ → Type 0
-EndsAt area at = (has_room area at 24 ≡ false) ⊎ (life_at area at ≡ Unwritten)
+EndsAt area at = (has_room area at 24 ≡ false) ⊎ (state_at area at ≡ Free)
 
 -- what spans a part of a volume: a header alone, of which nothing more is read; a file that is gone, or not yet there; or a file
 -- that counts
@@ -36,9 +36,9 @@ pub record HasHeader (area : Area) (at : ℕ) : Type 0 where
 -- A span stands at a place.
 abbrev pub StandsAt : Area → ℕ → Span → Type 0
 StandsAt area at HeaderAlone =
-    (has_room area at 24 ≡ true) × ((life_at area at ≡ UnderConstruction) ⊎ (life_at area at ≡ HeaderInvalid))
-StandsAt area at Gone = HasHeader area at × ((life_at area at ≡ HeaderOnly) ⊎ (life_at area at ≡ Deleted))
-StandsAt area at Counts = HasHeader area at × ((life_at area at ≡ Valid) ⊎ (life_at area at ≡ BeingReplaced))
+    (has_room area at 24 ≡ true) × ((state_at area at ≡ HeaderConstruction) ⊎ (state_at area at ≡ HeaderInvalid))
+StandsAt area at Gone = HasHeader area at × ((state_at area at ≡ HeaderValid) ⊎ (state_at area at ≡ Deleted))
+StandsAt area at Counts = HasHeader area at × ((state_at area at ≡ DataValid) ⊎ (state_at area at ≡ MarkedForUpdate))
 
 -- the place behind a span: files are padded to a multiple of 8
 abbrev pub place_behind : Area → ℕ → Span → ℕ
@@ -78,9 +78,9 @@ pub record IsVolume (bytes : List ℕ) (volume : Volume) : Type 0 where
 -- sum where a large header has no room, and behind it else.
 pub record IsWritten (area : Area) (at : ℕ) : Type 0 where
   pub room : has_room area at 24 ≡ true
-  pub written : life_at area at ≡ Unwritten → ⊥
-  pub not_constructed : life_at area at ≡ UnderConstruction → ⊥
-  pub not_invalid : life_at area at ≡ HeaderInvalid → ⊥
+  pub written : state_at area at ≡ Free → ⊥
+  pub not_constructed : state_at area at ≡ HeaderConstruction → ⊥
+  pub not_invalid : state_at area at ≡ HeaderInvalid → ⊥
 
 pub record HasBadSum (area : Area) (at : ℕ) : Type 0 where
   pub large : is_large area at ≡ true → has_room area at 32 ≡ true
@@ -91,7 +91,7 @@ pub record HasBadSize (area : Area) (at : ℕ) : Type 0 where
   pub summed : header_sum_is_zero area at ≡ true
   pub size : (size_fits area at && not (says_large area at && not area.ffs3)) ≡ false
 
--- A header at this place is refused for this, whatever its life.
+-- A header at this place is refused for this, whatever its state.
 abbrev pub IsBadAt : Area → ℕ → VolumeKind → Type 0
 IsBadAt area at kind =
     ((kind ≡ FileSum) × HasBadSum area at)

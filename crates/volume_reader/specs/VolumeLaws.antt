@@ -1,5 +1,5 @@
 -- Laws of the volume grammar: bytes are one volume, or have one fault, and not both.
-use Rattle.std.specs.Prelude.{◌≡◌, ◌≤◌, ℕ, ◌<◌, ◌⊎◌, List, length, take, All}
+use Rattle.std.specs.Prelude.{◌≡◌, ◌≤◌, ℕ, ◌+◌, ◌<◌, ◌⊎◌, List, length, take, All}
 use Rattle.mm_base.specs.declared.volume.Volume.{Volume}
 use Rattle.volume_reader.specs.VolumeHeader.{volume_length}
 use Rattle.volume_reader.specs.VolumeGrammar.{IsVolume, HasFault}
@@ -30,3 +30,14 @@ SamePastEnd =
     → volume_length bytes ≤ cut
     → cut ≤ length bytes
     → IsVolume (take cut bytes) volume
+
+-- A volume lies in its bytes.
+abbrev pub LiesInBytes : Type 0
+LiesInBytes = (bytes : List ℕ) (volume : Volume) → IsVolume bytes volume → volume.length ≤ length bytes
+
+-- The body of each of its files lies in it.
+abbrev pub FilesLieInVolume : Type 0
+FilesLieInVolume =
+    (bytes : List ℕ) (volume : Volume)
+    → IsVolume bytes volume
+    → All (λ file. file.body_at + file.body ≤ volume.length) volume.files

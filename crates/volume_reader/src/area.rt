@@ -1,40 +1,41 @@
 //! The headers of files, and what stands at a place of a volume.
 ghost use Rattle.std.specs.Prelude.{◌≡◌, ◌+◌, ◌≤◌, length, true, MatchOption};
-ghost use Rattle.volume_reader.specs.FileHeader.{has_room as has_room_for, life_at as life_told, says_large as is_said_large, is_large as is_a_large, header_size as header_size_of, size_at as size_told, header_sum_is_zero, size_fits as fits_in, is_sound as is_a_sound, file_at as file_told};
+ghost use Rattle.volume_reader.specs.FileHeader.{has_room as has_room_for, state_at as state_told, says_large as is_said_large, is_large as is_a_large, header_size as header_size_of, size_at as size_told, header_sum_is_zero, size_fits as fits_in, is_sound as is_a_sound, file_at as file_told};
 ghost use Rattle.volume_reader.specs.VolumeGrammar.{HasHeader, IsBadAt};
 ghost use Rattle.volume_reader.specs.Finding.{Finds, FindsFile};
 
 use crate::bytes::{byte_at, sum_of_bytes, up_to_8};
-use crate::life::Life;
+use crate::file_state::FileState;
 use mm_base::{File, VolumeKind, guid_at, number_at};
 use std::marker::Model;
 
-/// How many bytes a file header has, and that of a large file.
+/// How many bytes an EFI_FFS_FILE_HEADER has.
 const HEADER_BYTES: usize = 24;
 
+/// How many bytes an EFI_FFS_FILE_HEADER2 has, the header of a large file.
 const LARGE_HEADER_BYTES: usize = 32;
 
-/// The file attributes that the file is large, and that its body has a checksum.
-const LARGE: u8 = 0x01;
+/// FFS_ATTRIB_LARGE_FILE: the file is large.
+const LARGE_FILE: u8 = 0x01;
 
-const CHECKSUM: u8 = 0x40;
+/// FFS_ATTRIB_CHECKSUM: the file checksum is the sum of the body.
+const BODY_CHECKSUM: u8 = 0x40;
 
-/// The file checksum of a body that has none.
-const NO_CHECKSUM: u8 = 0xaa;
+/// FFS_FIXED_CHECKSUM: the file checksum of a body whose sum isn't told.
+const FIXED_CHECKSUM: u8 = 0xaa;
 
-/// The type of a pad file.
-const PAD: u8 = 0xf0;
+/// EFI_FV_FILETYPE_FFS_PAD: the type of a pad file.
+const PAD_FILE: u8 = 0xf0;
 
-/// The bits of a state byte that tell a file's life.
+/// The bits of a state byte that tell a state.
 const STATE_BITS: u8 = 0x3f;
 
-/// What files are read in: the bytes of a volume, whether its file system is FFS3, and whether what is erased reads as
-/// ones.
+/// What files are read in: the bytes of a volume, whether its file system is FFS3, and whether bits are erased to ones.
 #[derive(Drop)]
 pub(crate) struct Area<'a> {
     pub(crate) bytes: &'a [u8],
     pub(crate) ffs3: bool,
-    pub(crate) ones: bool,
+    pub(crate) erase_polarity: bool,
 }
 
 impl<'a> Model for Area<'a> {
@@ -42,7 +43,7 @@ impl<'a> Model for Area<'a> {
 
     ghost Value = { AreaRead };
 
-    ghost view = { λ area. record { bytes = area.bytes.now; ffs3 = area.ffs3; ones = area.ones } };
+    ghost view = { λ area. record { bytes = area.bytes.now; ffs3 = area.ffs3; erase_polarity = area.erase_polarity } };
 }
 
 /// What stands at a place.
@@ -64,14 +65,18 @@ impl<'a> Area<'a> {
         at <= self.bytes.len() && size <= self.bytes.len() - at
     }
 
-    /// The life of the file at a place.
-    fn life_at(&self, at: usize) -> Life
+    /// The state of the file at a place.
+    fn state_at(&self, at: usize) -> FileState
         requires { has_room_for self.now at 24 ≡ true }
-        ensures { result ≡ life_told self.now at }
+        ensures { result ≡ state_told self.now at }
     {
         let state = byte_at(self.bytes, at + 23);
-        let told = if self.ones { state ^ 0xff } else { state };
-        Life::of(told & STATE_BITS)
+        let told = if self.erase_polarity {
+            state ^ 0xff
+        } else {
+            state
+        };
+        FileState::of(told & STATE_BITS)
     }
 
     /// Whether the file at a place says that it is large.
@@ -79,7 +84,7 @@ impl<'a> Area<'a> {
         requires { has_room_for self.now at 24 ≡ true }
         ensures { result ≡ is_said_large self.now at }
     {
-        byte_at(self.bytes, at + 19) & LARGE != 0
+        byte_at(self.bytes, at + 19) & LARGE_FILE != 0
     }
 
     /// Whether the file at a place is large.
@@ -115,7 +120,7 @@ impl<'a> Area<'a> {
         }
     }
 
-    /// Whether the 8-bit sum of the header at a place is 0, without its state and its file checksum.
+    /// Whether the header at a place sums up to 0 in 8 bits, without its state and its file checksum.
     fn header_sums_up(&self, at: usize) -> bool
         requires room { has_room_for self.now at 24 ≡ true }
         requires large { is_a_large self.now at ≡ true → has_room_for self.now at 32 ≡ true }
@@ -158,12 +163,12 @@ impl<'a> Area<'a> {
         requires { HasHeader self.now at }
         ensures { result ≡ is_a_sound self.now at }
     {
-        if byte_at(self.bytes, at + 18) == PAD {
+        if byte_at(self.bytes, at + 18) == PAD_FILE {
             return true;
         }
         let checksum = byte_at(self.bytes, at + 17);
-        if byte_at(self.bytes, at + 19) & CHECKSUM == 0 {
-            return checksum == NO_CHECKSUM;
+        if byte_at(self.bytes, at + 19) & BODY_CHECKSUM == 0 {
+            return checksum == FIXED_CHECKSUM;
         }
         let header = self.header_size(at);
         let (_, rest) = self.bytes.split_at(at + header);
@@ -212,13 +217,13 @@ impl<'a> Area<'a> {
         if !self.has_room(at, HEADER_BYTES) {
             return Found::End;
         }
-        match self.life_at(at) {
-            Life::Unwritten => Found::End,
-            Life::UnderConstruction | Life::HeaderInvalid => {
+        match self.state_at(at) {
+            FileState::Free => Found::End,
+            FileState::HeaderConstruction | FileState::HeaderInvalid => {
                 Found::Behind(at + HEADER_BYTES, None)
             }
-            Life::HeaderOnly | Life::Deleted => self.file_found(at, false),
-            Life::Valid | Life::BeingReplaced => self.file_found(at, true),
+            FileState::HeaderValid | FileState::Deleted => self.file_found(at, false),
+            FileState::DataValid | FileState::MarkedForUpdate => self.file_found(at, true),
         }
     }
 }

@@ -1,7 +1,8 @@
 //! Bytes, and sums of them.
-ghost use Rattle.std.specs.Prelude.{◌≡◌, ◌+◌, ◌%◌, ◌^◌, ◌≤◌, ◌<◌, length, sum, take, drop};
+ghost use Rattle.std.specs.Prelude.{◌≡◌, ◌+◌, ◌%◌, ◌^◌, ◌≤◌, ◌<◌, length};
 ghost use Rattle.mm_base.specs.Numbers.{number_at as number_there};
-ghost use Rattle.volume_reader.specs.VolumeHeader.{sum_of_words as words_summed, up_to_8 as rounded_up};
+ghost use Rattle.volume_reader.specs.Sums.{sum_in_8_bits, sum_in_16_bits};
+ghost use Rattle.volume_reader.specs.VolumeHeader.{up_to_8 as rounded_up};
 
 /// The byte at a place.
 pub(crate) fn byte_at(bytes: &[u8], at: usize) -> u8
@@ -13,7 +14,7 @@ pub(crate) fn byte_at(bytes: &[u8], at: usize) -> u8
 
 /// The 8-bit sum of bytes; linear in them.
 pub(crate) fn sum_of_bytes(bytes: &[u8]) -> u8
-    ensures { result ≡ sum bytes.now % 256 }
+    ensures { result ≡ sum_in_8_bits bytes.now }
 {
     let mut total: u8 = 0;
     for byte in bytes {
@@ -22,10 +23,10 @@ pub(crate) fn sum_of_bytes(bytes: &[u8]) -> u8
     total
 }
 
-/// The 16-bit sum of the words in bytes; linear in them.
+/// The 16-bit sum of bytes; linear in them.
 pub(crate) fn sum_of_words(bytes: &[u8]) -> u16
     requires { length bytes.now % 2 ≡ 0 }
-    ensures { result ≡ words_summed bytes.now % 65536 }
+    ensures { result ≡ sum_in_16_bits bytes.now }
 {
     let mut total: u16 = 0;
     for place in 0..bytes.len() / 2 {

@@ -1,31 +1,35 @@
 //! The header of a volume.
 ghost use Rattle.std.specs.Prelude.{◌≡◌, ◌+◌, ◌%◌, ◌≤◌, ◌&&◌, ◌||◌, ◌==◌, if◌then◌else◌, length, true, false, nat_le, take, drop, codes, None, OnOk, IfErr};
 ghost use Rattle.std.specs.Str.{bytes_eq};
-ghost use Rattle.volume_reader.specs.VolumeHeader.{header_length as header_length_of, volume_length as volume_length_of, ext_header, ext_size, ext_header_fits as has_room_for_ext, file_system, ffs2_guid, ffs3_guid, is_ffs3 as is_ffs3_volume, sum_of_words as words_summed, first_failing, first_place as first_place_of, erases_to_ones as erased_are_ones};
+ghost use Rattle.volume_reader.specs.VolumeHeader.{header_length as header_length_of, volume_length as volume_length_of, ext_header, ext_size, ext_header_fits as has_room_for_ext, file_system, ffs2_guid, ffs3_guid, is_ffs3 as is_ffs3_volume, first_failing, first_place as first_place_of, erase_polarity as polarity_told};
+ghost use Rattle.volume_reader.specs.Sums.{sum_in_16_bits as words_summed};
 ghost use Rattle.volume_reader.specs.VolumeGrammar.{HasBadHeader};
 
 use crate::bytes::{byte_at, sum_of_words, up_to_8};
 use crate::reading::VolumeFault;
 use mm_base::{VolumeKind, number_at, stands_at};
 
-/// How many bytes the fixed part of a volume header has.
+/// How many bytes an EFI_FIRMWARE_VOLUME_HEADER has in front of what may stand in its block map.
 const FIXED_BYTES: usize = 64;
 
-/// How many bytes an extended header has at least: its name and its size.
+/// How many bytes an EFI_FIRMWARE_VOLUME_EXT_HEADER has at least: its name and its size.
 const EXT_BYTES: usize = 20;
 
+/// EFI_FVH_SIGNATURE.
 const SIGNATURE: [u8; 4] = *b"_FVH";
 
+/// EFI_FVH_REVISION.
 const REVISION: u8 = 2;
 
-/// The volume attribute that erased bytes read as ones.
+/// EFI_FVB2_ERASE_POLARITY: bits are erased to ones.
 const ERASE_POLARITY: u64 = 0x800;
 
-/// The file systems FFS2 and FFS3 by their GUIDs, as they are stored.
+/// EFI_FIRMWARE_FILE_SYSTEM2_GUID, as it is stored.
 const FFS2: [u8; 16] = [
     0x78, 0xe5, 0x8c, 0x8c, 0x3d, 0x8a, 0x1c, 0x4f, 0x99, 0x35, 0x89, 0x61, 0x85, 0xc3, 0x2d, 0xd3,
 ];
 
+/// EFI_FIRMWARE_FILE_SYSTEM3_GUID, as it is stored.
 const FFS3: [u8; 16] = [
     0x7a, 0xc0, 0x73, 0x54, 0xcb, 0x3d, 0xca, 0x4d, 0xbd, 0x6f, 0x1e, 0x96, 0x89, 0xe7, 0x34, 0x9a,
 ];
@@ -54,10 +58,10 @@ pub(crate) fn is_ffs3(bytes: &[u8]) -> bool
     stands_at(bytes, 16, &FFS3)
 }
 
-/// Whether bytes that were erased read as ones.
-pub(crate) fn erases_to_ones(bytes: &[u8]) -> bool
+/// Whether bits that were erased read as ones.
+pub(crate) fn erase_polarity(bytes: &[u8]) -> bool
     requires { 64 ≤ length bytes.now }
-    ensures { result ≡ erased_are_ones bytes.now }
+    ensures { result ≡ polarity_told bytes.now }
 {
     number_at(bytes, 44, 4) & ERASE_POLARITY != 0
 }
@@ -88,13 +92,12 @@ fn header_length_fits(bytes: &[u8]) -> bool
     FIXED_BYTES <= length && length % 2 == 0 && length <= bytes.len()
 }
 
-/// Whether the 16-bit words of the header sum up to 0; linear in the header.
+/// Whether the header sums up to 0 in 16 bits; linear in the header.
 fn header_sums_up(bytes: &[u8]) -> bool
     requires fixed { 64 ≤ length bytes.now }
     requires even { header_length_of bytes.now % 2 ≡ 0 }
     requires within { header_length_of bytes.now ≤ length bytes.now }
-    ensures { result
-        ≡ (words_summed (take (header_length_of bytes.now) bytes.now) % 65536 == 0) }
+    ensures { result ≡ (words_summed (take (header_length_of bytes.now) bytes.now) == 0) }
 {
     let (header, _) = bytes.split_at(header_length(bytes));
     sum_of_words(header) == 0

@@ -1,12 +1,14 @@
-//! Firmware volumes: the files of a volume, and the sections of a file.
+//! Firmware volumes: the files of a volume, the sections of a file, and what these tell together.
 #![tactic(auto)]
 
 mod area;
 mod bytes;
+mod contents_of_file;
+mod file_state;
 mod header;
 pub mod laws;
-mod life;
 mod reading;
+mod section_contents;
 mod section_of_file;
 #[cfg(test)]
 mod section_tests;
@@ -14,7 +16,9 @@ mod section_walk;
 #[cfg(test)]
 mod volume_tests;
 
+pub use contents_of_file::contents;
 pub use mm_base::{File, Section, SectionFault, Volume, VolumeKind};
 pub use reading::{VolumeEnd, VolumeFault, read_volume};
+pub use section_contents::Contents;
 pub use section_of_file::sections;
 pub use section_walk::Sections;

@@ -7,7 +7,7 @@ ghost use Rattle.volume_reader.specs.VolumeGrammar.{IsVolume, HasFault};
 ghost use Rattle.volume_reader.specs.Finding.{AreFiles, EndsBy, HasFaultFrom};
 
 use crate::area::{Area, Found};
-use crate::header::{check_header, erases_to_ones, first_place, is_ffs3, volume_length};
+use crate::header::{check_header, erase_polarity, first_place, is_ffs3, volume_length};
 use mm_base::{File, List, NoMemory, Volume, VolumeKind};
 use std::alloc::Global;
 
@@ -87,7 +87,7 @@ pub fn read_volume(alloc: Global, bytes: &[u8]) -> Result<Volume, VolumeEnd>
     let area = Area {
         bytes: inside,
         ffs3: is_ffs3(bytes),
-        ones: erases_to_ones(bytes),
+        erase_polarity: erase_polarity(bytes),
     };
     let files = read_files(alloc, &area, first_place(bytes))?;
     Ok(Volume {

@@ -1,5 +1,5 @@
 use Rattle.std.proofs.Common.{◌≡◌, ◌+◌, ◌*◌, ◌%◌, drop}
-use Rattle.volume_reader.specs.VolumeHeader.{sum_of_words}
+use Rattle.volume_reader.specs.Sums.{sum_of_words}
 use Rattle.volume_reader.proofs.bytes.sum_of_words.Given as goal
 
 abbrev pub invariant-loop-place : goal.invariant-loop-place

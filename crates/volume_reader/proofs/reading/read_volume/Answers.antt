@@ -36,7 +36,7 @@ returns-clause-found c =
     let bytes = c.args.bytes.now in
     let inside = c.split_at.ensures.front ∙ ap (λ (n : ℕ). take n bytes) c.volume_length.ensures in
     let long = c.split_at.ensures.front_len ∙ c.volume_length.ensures in
-    let is = is_volume bytes _ _ _ _ _ c.in_ok-check_header.ensures.ok inside long c.is_ffs3.ensures c.erases_to_ones.ensures c.first_place.ensures c.in_ok-files.ensures.files in
+    let is = is_volume bytes _ _ _ _ _ c.in_ok-check_header.ensures.ok inside long c.is_ffs3.ensures c.erase_polarity.ensures c.first_place.ensures c.in_ok-files.ensures.files in
     told_found bytes (Ok (record { length = length c.split_at.result.0.now; ffs3 = c.is_ffs3.result; files = c.in_ok-files.files })) is tt
 
 pub returns-clause-first : goal.returns-clause-first
@@ -44,5 +44,5 @@ returns-clause-first c =
     let bytes = c.args.bytes.now in
     let inside = c.split_at.ensures.front ∙ ap (λ (n : ℕ). take n bytes) c.volume_length.ensures in
     let long = c.split_at.ensures.front_len ∙ c.volume_length.ensures in
-    let is = is_volume bytes _ _ _ _ _ c.in_ok-check_header.ensures.ok inside long c.is_ffs3.ensures c.erases_to_ones.ensures c.first_place.ensures c.in_ok-files.ensures.files in
+    let is = is_volume bytes _ _ _ _ _ c.in_ok-check_header.ensures.ok inside long c.is_ffs3.ensures c.erase_polarity.ensures c.first_place.ensures c.in_ok-files.ensures.files in
     told_first bytes (Ok (record { length = length c.split_at.result.0.now; ffs3 = c.is_ffs3.result; files = c.in_ok-files.files })) is tt
