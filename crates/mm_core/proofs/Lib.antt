@@ -1,3 +1,4 @@
+pub mod CatalogLemmas
 pub mod BufferLemmas
 pub mod ChainRunLemmas
 pub mod LawLemmas

@@ -13,8 +13,10 @@ mod script_core;
 #[cfg(test)]
 mod tests;
 mod version;
+mod volume_catalog;
 
 pub use file_word::{Cause, FileWord};
 pub use machine_core::Core;
 pub use script_core::scripted;
 pub use version::{VERSION_GUID, VERSION_NUMBER};
+pub use volume_catalog::catalog;

@@ -1,0 +1,24 @@
+use Rattle.std.proofs.Common.{List, subst, sym, ◌∙◌, false}
+use Rattle.mm_base.specs.declared.volume.File.{File}
+use Rattle.mm_core.proofs.CatalogLemmas.{file_lies, SoFar, known_before, known_by_last, so_far_none, so_far_more, so_far_all}
+use Rattle.mm_core.proofs.volume_catalog.catalog.Goals as goal
+use Rattle.mm_core.proofs.volume_catalog.catalog.Goals.{then-has_policy, else-has_policy}
+
+pub word_of-requires-clause-within : goal.word_of-requires-clause-within
+word_of-requires-clause-within c =
+    file_lies c.args.bytes.now c.args.volume.now c.as_slice-file-items.result.now c.loop-file.file-index _ c.requires.read c.as_slice-file-items.ensures c.loop-file-test.true
+
+pub loop-file-init : goal.loop-file-init
+loop-file-init c =
+    let P : List File → Type 0 = λ left. SoFar c.args.bytes.now c.args.volume.now.files left c.new-words.result false in
+    subst P (sym c.as_slice-file-items.ensures) (so_far_none c.args.bytes.now c.args.volume.now.files c.new-words.result c.new-words.ensures)
+
+pub loop-file-preserved : goal.loop-file-preserved
+loop-file-preserved c =
+    so_far_more c.args.bytes.now c.args.volume.now.files c.as_slice-file-items.result.now c.loop-file.file-index _ c.loop-file.words c.word_of.result
+    c.loop-file.has_policy c.if-has_policy.has_policy c.push.new.self c.loop-file-test.true c.loop-file.invariant c.word_of.ensures
+    (elim c.if-has_policy.branch [ then-has_policy w ↦ known_before _ _ _ w.if-has_policy.true (w.has_policy-is ∙ w.if-has_policy.true) | else-has_policy w ↦ known_by_last _ _ _ w.if-has_policy.false (w.has_policy-is ∙ w.is_policy-has_policy.ensures) ])
+    c.in_ok-push.ensures.ok
+
+pub returns : goal.returns
+returns c = so_far_all c.args.bytes.now c.args.volume.now.files c.as_slice-file-items.result.now c.loop-file.file-index c.loop-file.words c.loop-file.has_policy c.loop-file-test.false c.loop-file.invariant
