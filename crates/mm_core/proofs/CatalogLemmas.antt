@@ -1,5 +1,5 @@
 -- The words of files, one after another.
-use Rattle.std.proofs.Common.{◌≡◌, ℕ, ◌+◌, ◌<◌, ◌≤◌, Bool, true, false, ◌||◌, List, [], ◌∷◌, ◌++◌, length, drop, get_or, MatchBool, refl, sym, ap, ◌∙◌, subst, arith, append_assoc, eq-eqb}
+use Rattle.std.proofs.Common.{◌≡◌, ℕ, suc, ◌+◌, ◌<◌, ◌≤◌, Bool, true, false, ◌||◌, List, [], ◌∷◌, ◌++◌, length, drop, get_or, MatchBool, refl, sym, ap, ◌∙◌, subst, arith, append_assoc, eq-eqb}
 use Rattle.std.specs.List.{list_any}
 use Rattle.std.proofs.lemmas.List.Folds.{list_any-append}
 use Rattle.std.proofs.lemmas.List.{drop_more, drop_all, append-nil}
@@ -77,3 +77,12 @@ so_far_all bytes files all k words has_policy h so_far =
     let P : List File → Type 0 = λ left. AreWordsBehind bytes so_far.earlier left [] in
     let Q : List FileWord → Type 0 = λ ws. AreWords bytes files ws in
     subst Q (append-nil words) (so_far.rest [] (subst P (sym none) refl))
+
+-- there is a word for each file
+words-length : (bytes : List ℕ) (earlier : List Known) (files : List File) (words : List FileWord) → AreWordsBehind bytes earlier files words → length words ≡ length files
+words-length bytes earlier [] words are = ap length are
+words-length bytes earlier (file ∷ files) words (word, (others, (is, (has, rest)))) =
+    ap length is ∙ ap suc (words-length bytes (earlier ++ record { file = file; word = word } ∷ []) files others rest)
+
+pub one_each : (bytes : List ℕ) (files : List File) (words : List FileWord) → AreWords bytes files words → length words ≡ length files
+one_each bytes files words are = words-length bytes [] files words are

@@ -29,7 +29,8 @@ const POLICY_NAME: Guid = Guid([
 pub fn catalog(alloc: Global, bytes: &[u8], volume: &Volume) -> Result<List<FileWord>, NoMemory>
     requires read { IsVolume bytes.now volume.now }
     requires few { length bytes.now ≤ 16777216 }
-    ensures { IfOk result (AreWords bytes.now volume.now.files) }
+    ensures words { IfOk result (AreWords bytes.now volume.now.files) }
+    ensures one_each { IfOk result (λ words. length words ≡ length volume.now.files) }
 {
     let mut words = List::new(alloc);
     let mut has_policy = false;

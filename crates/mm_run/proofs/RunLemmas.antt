@@ -1,25 +1,24 @@
 -- What a run comes to, for each command.
-use Rattle.std.proofs.Common.{◌≡◌, ◌≤◌, ◌⊎◌, inl, inr, ℕ, List, [], ◌++◌, length, true, false, Some, None, refl, sym, ap, ◌∙◌, subst, arith}
+use Rattle.std.proofs.Common.{◌≡◌, ◌≤◌, ◌⊎◌, inl, inr, ℕ, List, [], ◌++◌, length, true, false, Some, None, Result, Ok, Err, IfErr, refl, sym, ap, ◌∙◌, subst, arith}
 use Rattle.std.proofs.lemmas.List.{append-nil, length-append}
 use Rattle.std.proofs.lemmas.Option.{none-some, same_Some}
+use Rattle.std.specs.Prelude.{String}
+use Rattle.std.specs.declared.alloc.Global.{Global}
 use Rattle.std.specs.declared.option.Option.{Option}
 use Rattle.mm_base.specs.declared.entry.Entry.{Entry}
-use Rattle.mm_base.specs.declared.volume.Volume.{Volume}
 use Rattle.mm_io.specs.Streams.{Appends, AppendsFront, Gives, GivesAll, GivesMoreThan, IsUsedUp}
 use Rattle.comm_core.specs.Capture.{pieces_in}
 use Rattle.comm_core.specs.World.{WorldState}
 use Rattle.comm_core.proofs.HeadlineLemmas.{pieces_told, headline_of}
-use Rattle.comm_core.specs.declared.script.Script.{Script}
 use Rattle.mm_core.specs.CoreState.{CoreState}
 use Rattle.mm_core.specs.EntryStep.{core_step}
 use Rattle.mm_core.specs.EntryLaws.{core_step-within}
-use Rattle.mm_text.specs.Refusal.{IsFault}
 use Rattle.mm_text.specs.declared.text_end.TextFault.{TextFault}
 use Rattle.mm_text.proofs.TextLemmas.{never-both, fault-unique}
 use Rattle.volume_reader.specs.declared.reading.VolumeFault.{VolumeFault}
 use Rattle.volume_reader.proofs.LawLemmas as volume_laws
-use Rattle.mm_run.specs.Command.{most_bytes}
-use Rattle.mm_run.specs.ScriptRun.{WasDriven, Shows, Whole, Front, RunHeadline, HasHeadline, core_of, past_of, entries_of, lanes_of, lane_words, run_report, report_for}
+use Rattle.mm_run.specs.Command.{command_of, most_bytes}
+use Rattle.mm_run.specs.ScriptRun.{WasDriven, Shows, Whole, Front, RunHeadline, HasHeadline, core_of, past_of, lanes_of, lane_words, run_report, report_for}
 use Rattle.mm_run.specs.Run.{IsGood, IsFaulty, IsReport, Refusal, Faulty, Unreadable, Long, Wanting, Reports, Holds, HoldsFault, IsMadeOfScript, IsMadeOf, IsMade, RefusesBytes}
 use Rattle.mm_run.specs.Status.{writes}
 use Rattle.mm_run.specs.declared.command.Command.{Command}
@@ -80,7 +79,14 @@ given_all most before now bytes given e all =
 pub refused_bytes : (command : Command) (before now : Option (List ℕ)) (rose : Type 0) (bytes : List ℕ) (status : Status)
     → GivesAll before now (most_bytes command) bytes → RefusesBytes command bytes status → Refusal command before now rose status
 refused_bytes command before now rose bytes status all (inl faulty) = Faulty bytes all faulty
-refused_bytes command before now rose bytes status all (inr wanting) = Wanting (all.within, all.gives) wanting
+refused_bytes command before now rose bytes status all (inr wanting) = Wanting (bytes, all.within, all.gives) wanting
+
+pub refused_by_bytes : (command : Command) (before now : Option (List ℕ)) (rose : Type 0) (bytes seen : List ℕ) (result : Result Made Status)
+    → GivesAll before now (most_bytes command) bytes → seen ≡ bytes → IfErr result (RefusesBytes command seen) → IfErr result (Refusal command before now rose)
+refused_by_bytes command before now rose bytes seen (Ok made) all same r = tt
+refused_by_bytes command before now rose bytes seen (Err status) all same r =
+    let P : List ℕ → Type 0 = λ bytes. RefusesBytes command bytes status in
+    refused_bytes command before now rose bytes status all (subst P same r)
 
 -- no refusal writes, and none is of the words
 pub refusal_writes_nothing : (command : Command) (before now : Option (List ℕ)) (rose : Type 0) (status : Status) → Refusal command before now rose status → writes status ≡ false
@@ -118,6 +124,16 @@ refused_fault command before now rose status fault (Faulty bytes all faulty) h c
 refused_fault command before now rose status fault (Unreadable risen most is) h calm = absurd (calm risen)
 refused_fault command before now rose status fault (Long more is) h calm = absurd (not_long (most_bytes command) before now h.bytes h.told h.within more)
 refused_fault command before now rose status fault (Wanting most is) h calm = inr is
+
+-- ---- which command it is
+
+-- words are of one command
+pub same_command : (words seen : List (String Global)) (one other : Command) → Some one ≡ command_of seen → seen ≡ words → command_of words ≡ Some other → one ≡ other
+same_command words seen one other is same also = same_Some one other (is ∙ ap command_of same ∙ also)
+
+-- so what holds of the one holds of the other
+pub of_command : (P : Command → Type 0) (words seen : List (String Global)) (one other : Command) → Some one ≡ command_of seen → seen ≡ words → command_of words ≡ Some other → P one → P other
+of_command P words seen one other is same also = subst P (same_command words seen one other is same also)
 
 -- ---- what was made
 

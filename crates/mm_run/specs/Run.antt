@@ -1,5 +1,5 @@
 -- What a run of the program comes to, for each of its commands.
-use Rattle.std.specs.Prelude.{◌≡◌, ◌≤◌, ◌⊎◌, ℕ, Bool, true, List, length, Some, None}
+use Rattle.std.specs.Prelude.{◌≡◌, ◌≤◌, ◌⊎◌, ℕ, true, List, length, Some, None}
 use Rattle.std.specs.declared.option.Option.{Option}
 use Rattle.mm_base.specs.declared.volume.Volume.{Volume}
 use Rattle.mm_io.specs.Streams.{GivesAll, GivesAtMost, GivesMoreThan}

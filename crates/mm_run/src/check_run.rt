@@ -1,11 +1,13 @@
 //! What a run makes of a volume.
 ghost use Rattle.std.specs.Prelude.{◌≡◌, ◌≤◌, IfOk, IfErr, length};
+ghost use Rattle.mm_run.specs.CheckRun.{volume_report};
 ghost use Rattle.mm_run.specs.Run.{IsMadeOfVolume, RefusesBytes};
 ghost use Rattle.mm_run.specs.declared.command.Command.TheVariants.{Check};
 
 use crate::status::Status;
 use crate::top_call::Made;
-use mm_core::catalog;
+use mm_base::{Bytes, List, NoMemory, Volume};
+use mm_core::{FileWord, catalog};
 use mm_text::{Parts, report};
 use std::alloc::Global;
 use volume_reader::read_volume;
@@ -18,12 +20,24 @@ pub(crate) fn check_volume(alloc: Global, bytes: &[u8]) -> Result<Made, Status>
 {
     let volume = read_volume(alloc, bytes)?;
     let words = catalog(alloc, bytes, &volume)?;
+    let text = listed(alloc, &volume, &words)?;
+    Ok(Made { world: None, text })
+}
+
+/// The report of a volume and the words of its files.
+fn listed<'a>(
+    alloc: Global,
+    volume: &'a Volume,
+    words: &'a List<FileWord>,
+) -> Result<Bytes, NoMemory>
+    requires { length words.now ≡ length volume.now.files }
+    ensures { IfOk result (λ text. text ≡ volume_report volume.now words.now) }
+{
     let parts = Parts {
-        volume: Some(&volume),
-        words: Some(&words),
+        volume: Some(volume),
+        words: Some(words),
         entries: None,
         lanes: None,
     };
-    let text = report(alloc, &parts)?;
-    Ok(Made { world: None, text })
+    report(alloc, &parts)
 }

@@ -9,7 +9,7 @@ use Rattle.mm_base.specs.declared.entry.Entry.{Entry}
 use Rattle.mm_base.specs.declared.volume.File.{File}
 use Rattle.mm_core.specs.declared.file_word.FileWord.{FileWord}
 use Rattle.mm_text.specs.Report.{bytes_text, entry_lines, entries_lines, lane_line, lanes_lines}
-use Rattle.mm_text.specs.VolumeLines.{file_line, first_line, files_lines}
+use Rattle.mm_text.specs.VolumeLines.{file_line, files_lines}
 
 infixl 5 ◌▸◌
 -- one piece behind another

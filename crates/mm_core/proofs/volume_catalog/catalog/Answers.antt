@@ -1,6 +1,6 @@
 use Rattle.std.proofs.Common.{List, subst, sym, ◌∙◌, false}
 use Rattle.mm_base.specs.declared.volume.File.{File}
-use Rattle.mm_core.proofs.CatalogLemmas.{file_lies, SoFar, known_before, known_by_last, so_far_none, so_far_more, so_far_all}
+use Rattle.mm_core.proofs.CatalogLemmas.{file_lies, SoFar, known_before, known_by_last, so_far_none, so_far_more, so_far_all, one_each}
 use Rattle.mm_core.proofs.volume_catalog.catalog.Goals as goal
 use Rattle.mm_core.proofs.volume_catalog.catalog.Goals.{then-has_policy, else-has_policy}
 
@@ -20,5 +20,11 @@ loop-file-preserved c =
     (elim c.if-has_policy.branch [ then-has_policy w ↦ known_before _ _ _ w.if-has_policy.true (w.has_policy-is ∙ w.if-has_policy.true) | else-has_policy w ↦ known_by_last _ _ _ w.if-has_policy.false (w.has_policy-is ∙ w.is_policy-has_policy.ensures) ])
     c.in_ok-push.ensures.ok
 
-pub returns : goal.returns
-returns c = so_far_all c.args.bytes.now c.args.volume.now.files c.as_slice-file-items.result.now c.loop-file.file-index c.loop-file.words c.loop-file.has_policy c.loop-file-test.false c.loop-file.invariant
+pub returns-clause-words : goal.returns-clause-words
+returns-clause-words c =
+    so_far_all c.args.bytes.now c.args.volume.now.files c.as_slice-file-items.result.now c.loop-file.file-index c.loop-file.words c.loop-file.has_policy c.loop-file-test.false c.loop-file.invariant
+
+pub returns-clause-one_each : goal.returns-clause-one_each
+returns-clause-one_each c =
+    one_each c.args.bytes.now c.args.volume.now.files c.loop-file.words
+    (so_far_all c.args.bytes.now c.args.volume.now.files c.as_slice-file-items.result.now c.loop-file.file-index c.loop-file.words c.loop-file.has_policy c.loop-file-test.false c.loop-file.invariant)
