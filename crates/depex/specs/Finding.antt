@@ -1,0 +1,53 @@
+-- What a reader finds at a place, and how it ends.
+use Rattle.std.specs.Prelude.{◌≡◌, ◌<◌, ◌≤◌, ℕ, Bool, false, nat_le, List, [], ◌∷◌, ◌++◌}
+use Rattle.mm_base.specs.declared.expression.DepexFault.{DepexFault}
+use Rattle.depex.specs.declared.item.Item.{Item}
+use Rattle.depex.specs.declared.item.Item.TheVariants as items
+use Rattle.depex.specs.declared.found.Found.{Found}
+use Rattle.depex.specs.declared.found.Found.TheVariants.{End, Next, Refused}
+use Rattle.depex.specs.declared.reading.DepexEnd.{DepexEnd}
+use Rattle.depex.specs.declared.reading.DepexEnd.TheVariants.{Fault, NoMemory}
+use Rattle.depex.specs.Trees.{opcode_of, after_opcode, end_opcode, taken_by, guid_of, item_bytes, IsGuid}
+use Rattle.depex.specs.Expressions.{StopsAt}
+
+-- whether bytes begin with BEFORE or AFTER
+abbrev pub names_driver : List ℕ → Bool
+names_driver [] = false
+names_driver (opcode ∷ behind) = nat_le opcode after_opcode
+
+-- The GUID of an item is whole.
+abbrev pub IsWhole : Item → Type 0
+IsWhole (items.Push guid) = IsGuid guid
+IsWhole items.And = Unit {0}
+IsWhole items.Or = Unit {0}
+IsWhole items.Not = Unit {0}
+IsWhole items.True = Unit {0}
+IsWhole items.False = Unit {0}
+
+-- An item may stand behind so many operands: it finds those that it takes, and, where it takes none, room for one more.
+pub record MayStand (operands : ℕ) (item : Item) : Type 0 where
+  pub enough : taken_by item ≤ operands
+  pub room : taken_by item ≡ 0 → operands < 256
+
+-- The bytes begin with an item that may stand there.
+pub record FindsItem (operands : ℕ) (there : List ℕ) (item : Item) : Type 0 where
+  pub behind : List ℕ
+  pub begins : there ≡ item_bytes item ++ behind
+  pub whole : IsWhole item
+  pub may : MayStand operands item
+
+-- The bytes begin with END, and one operand stands in front of it.
+abbrev pub EndsAt : ℕ → List ℕ → Type 0
+EndsAt operands [] = ⊥
+EndsAt operands (opcode ∷ behind) = (opcode ≡ end_opcode) × (operands ≡ 1)
+
+-- what is found at a place, behind so many operands, where the bytes go on so
+abbrev pub Finds : ℕ → ℕ → List ℕ → Found → Type 0
+Finds operands at there End = EndsAt operands there
+Finds operands at there (Next item) = FindsItem operands there item
+Finds operands at there (Refused fault) = StopsAt operands at there fault
+
+-- A reader ended by such a fault, or for want of memory.
+abbrev pub EndsBy : (DepexFault → Type 0) → DepexEnd → Type 0
+EndsBy HasIt (Fault fault) = HasIt fault
+EndsBy HasIt NoMemory = Unit {0}

@@ -1,0 +1,4 @@
+pub mod Expressions
+pub mod Finding
+pub mod Keeping
+pub mod Trees

@@ -1,0 +1,16 @@
+//! Dependency expressions: their bytes, read as trees, and whether a tree holds.
+#![tactic(auto)]
+
+mod expression;
+mod found;
+mod installed;
+mod item;
+mod look;
+mod opcode;
+mod operands;
+mod reading;
+
+pub use expression::Depex;
+pub use installed::Installed;
+pub use mm_base::DepexFault;
+pub use reading::DepexEnd;
