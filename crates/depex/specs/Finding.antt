@@ -7,8 +7,8 @@ use Rattle.depex.specs.declared.found.Found.{Found}
 use Rattle.depex.specs.declared.found.Found.TheVariants.{End, Next, Refused}
 use Rattle.depex.specs.declared.reading.DepexEnd.{DepexEnd}
 use Rattle.depex.specs.declared.reading.DepexEnd.TheVariants.{Fault, NoMemory}
-use Rattle.depex.specs.Trees.{opcode_of, after_opcode, end_opcode, taken_by, guid_of, item_bytes, IsGuid}
-use Rattle.depex.specs.Expressions.{StopsAt}
+use Rattle.depex.specs.Trees.{Tree, postfix, opcode_of, after_opcode, end_opcode, taken_by, guid_of, item_bytes, IsGuid}
+use Rattle.depex.specs.Expressions.{Condition, IsExpression, StopsAt}
 
 -- whether bytes begin with BEFORE or AFTER
 abbrev pub names_driver : List ℕ → Bool
@@ -46,6 +46,10 @@ abbrev pub Finds : ℕ → ℕ → List ℕ → Found → Type 0
 Finds operands at there End = EndsAt operands there
 Finds operands at there (Next item) = FindsItem operands there item
 Finds operands at there (Refused fault) = StopsAt operands at there fault
+
+-- The bytes begin with a condition that has these items.
+abbrev pub IsCondition : List ℕ → List Item → Type 0
+IsCondition bytes items = (tree : Tree) × IsExpression bytes (Condition tree) × (items ≡ postfix tree)
 
 -- A reader ended by such a fault, or for want of memory.
 abbrev pub EndsBy : (DepexFault → Type 0) → DepexEnd → Type 0
