@@ -1,13 +1,14 @@
 -- Operands that stand one behind another, and one item more.
-use Rattle.std.proofs.Common.{◌≡◌, ℕ, ◌+◌, ◌-◌, ◌<◌, ◌≤◌, max, List, [], ◌∷◌, ◌++◌, length, take, drop, refl, sym, ap, ◌∙◌, subst, append_assoc, length-append, arith}
-use Rattle.std.proofs.lemmas.List.{append-nil, drop_at}
+use Rattle.std.proofs.Common.{◌≡◌, ℕ, suc, get_or, drop-cons, ◌+◌, ◌-◌, ◌<◌, ◌≤◌, max, List, [], ◌∷◌, ◌++◌, length, take, drop, refl, sym, ap, ◌∙◌, subst, append_assoc, length-append, arith}
+use Rattle.std.proofs.lemmas.List.{append-nil, drop_at, take_all, take-append-drop}
 use Rattle.std.proofs.lemmas.List.Concat.{flat_map-append}
 use Rattle.depex.specs.declared.item.Item.{Item}
 use Rattle.depex.specs.declared.item.Item.TheVariants as items
-use Rattle.depex.specs.Trees.{Tree, True, False, Push, Not, And, Or, postfix, need, taken_by, guid_of, item_bytes, bytes_of, end_opcode}
+use Rattle.depex.specs.Trees.{Tree, True, False, Push, Not, And, Or, postfix, need, taken_by, guid_of, item_bytes, bytes_of, before_opcode, after_opcode, end_opcode}
+use Rattle.mm_base.specs.declared.guid.Guid.{Guid}
 use Rattle.mm_base.specs.declared.expression.DepexFault.{DepexFault}
-use Rattle.depex.specs.Expressions.{Expression, Condition, IsExpression, items_of, AreOperands, StandsBehind, StopsAt, HasFaultInside}
-use Rattle.depex.specs.Finding.{IsWhole, MayStand, FindsItem, EndsAt, IsCondition}
+use Rattle.depex.specs.Expressions.{Expression, Condition, Before, After, IsExpression, items_of, AreOperands, StandsBehind, StopsAt, HasFaultInside}
+use Rattle.depex.specs.Finding.{IsWhole, MayStand, FindsItem, EndsAt, IsCondition, IsName}
 
 -- the bytes of items and one more
 pub bytes_of-push : (some : List Item) (item : Item) → bytes_of (some ++ item ∷ []) ≡ bytes_of some ++ item_bytes item
@@ -164,3 +165,34 @@ walked_near bytes read count at walked = record {
     none_first : (operands : List Tree) → length operands ≡ 0 → at ≡ length (bytes_of (items_of operands)) → at ≡ 0
     none_first [] none place = place
     none_first (tree ∷ before) none place = absurd (omega (arith, none))
+
+-- ---- names of drivers
+
+-- bytes that have a GUID and END in front
+pub name_is : (behind name : List ℕ) → name ≡ take 16 behind → 16 < length behind → get_or behind 16 0 ≡ end_opcode
+    → behind ≡ name ++ end_opcode ∷ drop 17 behind
+name_is behind name front long end =
+    let rest : drop 16 behind ≡ end_opcode ∷ drop 17 behind = drop-cons behind 16 0 long ∙ ap (λ (opcode : ℕ). opcode ∷ drop 17 behind) end in
+    sym (take-append-drop 16 behind) ∙ (λ i. sym front i ++ rest i)
+
+-- bytes with a first opcode
+pub opcode_and_rest : (bytes : List ℕ) (opcode : ℕ) → 1 ≤ length bytes → get_or bytes 0 0 ≡ opcode → bytes ≡ opcode ∷ take (length bytes - 1) (drop 1 bytes)
+opcode_and_rest [] opcode some is = absurd (omega arith)
+opcode_and_rest (first ∷ bytes) opcode some is =
+    let all : take (suc (length bytes) - 1) bytes ≡ bytes = take_all (suc (length bytes) - 1) bytes (omega arith) in
+    λ i. is i ∷ sym all i
+
+-- so BEFORE and AFTER are read
+pub before_is : (bytes behind : List ℕ) (guid : Guid) → bytes ≡ before_opcode ∷ behind → IsName behind guid → IsExpression bytes (Before guid)
+before_is bytes behind guid first name = record {
+  behind = name.rest;
+  begins = first ∙ ap (λ (xs : List ℕ). before_opcode ∷ xs) (name.begins ∙ sym (append_assoc guid.0 (end_opcode ∷ []) name.rest));
+  sound = name.whole;
+}
+
+pub after_is : (bytes behind : List ℕ) (guid : Guid) → bytes ≡ after_opcode ∷ behind → IsName behind guid → IsExpression bytes (After guid)
+after_is bytes behind guid first name = record {
+  behind = name.rest;
+  begins = first ∙ ap (λ (xs : List ℕ). after_opcode ∷ xs) (name.begins ∙ sym (append_assoc guid.0 (end_opcode ∷ []) name.rest));
+  sound = name.whole;
+}

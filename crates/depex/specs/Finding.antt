@@ -1,5 +1,6 @@
 -- What a reader finds at a place, and how it ends.
 use Rattle.std.specs.Prelude.{◌≡◌, ◌<◌, ◌≤◌, ℕ, Bool, false, nat_le, List, [], ◌∷◌, ◌++◌}
+use Rattle.mm_base.specs.declared.guid.Guid.{Guid}
 use Rattle.mm_base.specs.declared.expression.DepexFault.{DepexFault}
 use Rattle.depex.specs.declared.item.Item.{Item}
 use Rattle.depex.specs.declared.item.Item.TheVariants as items
@@ -8,7 +9,9 @@ use Rattle.depex.specs.declared.found.Found.TheVariants.{End, Next, Refused}
 use Rattle.depex.specs.declared.reading.DepexEnd.{DepexEnd}
 use Rattle.depex.specs.declared.reading.DepexEnd.TheVariants.{Fault, NoMemory}
 use Rattle.depex.specs.Trees.{Tree, postfix, opcode_of, after_opcode, end_opcode, taken_by, guid_of, item_bytes, IsGuid}
-use Rattle.depex.specs.Expressions.{Condition, IsExpression, StopsAt}
+use Rattle.depex.specs.declared.expression.Kept.{Kept}
+use Rattle.depex.specs.Expressions.{Expression, Condition, IsExpression, StopsAt}
+use Rattle.depex.specs.Keeping.{kept_of}
 
 -- whether bytes begin with BEFORE or AFTER
 abbrev pub names_driver : List ℕ → Bool
@@ -50,6 +53,16 @@ Finds operands at there (Refused fault) = StopsAt operands at there fault
 -- The bytes begin with a condition that has these items.
 abbrev pub IsCondition : List ℕ → List Item → Type 0
 IsCondition bytes items = (tree : Tree) × IsExpression bytes (Condition tree) × (items ≡ postfix tree)
+
+-- The bytes behind a BEFORE or AFTER begin with this name and END.
+pub record IsName (behind : List ℕ) (guid : Guid) : Type 0 where
+  pub rest : List ℕ
+  pub begins : behind ≡ guid.0 ++ end_opcode ∷ rest
+  pub whole : IsGuid guid
+
+-- This is kept of an expression that the bytes begin with.
+abbrev pub IsKeptOf : List ℕ → Kept → Type 0
+IsKeptOf bytes kept = (expression : Expression) × IsExpression bytes expression × (kept ≡ kept_of expression)
 
 -- A reader ended by such a fault, or for want of memory.
 abbrev pub EndsBy : (DepexFault → Type 0) → DepexEnd → Type 0

@@ -1,13 +1,16 @@
 //! How an expression is read.
 ghost use Rattle.std.specs.Prelude.{◌≡◌, ◌≤◌, ◌⊎◌, length, true, false, Ok, Err, IfOk, IfErr};
 ghost use Rattle.depex.specs.declared.reading.DepexEnd.TheVariants.{Fault as FaultOf, NoMemory as OutOfMemory};
-ghost use Rattle.depex.specs.Expressions.{HasFaultInside};
-ghost use Rattle.depex.specs.Finding.{names_driver as names_another_driver, IsCondition, EndsBy};
+ghost use Rattle.depex.specs.Expressions.{Expression, IsExpression, IsRefusedName, HasFaultInside, HasFault};
+ghost use Rattle.depex.specs.Finding.{names_driver, IsCondition, IsName, IsKeptOf, EndsBy};
+ghost use Rattle.depex.specs.Keeping.{kept_of};
 
+use crate::expression::{Depex, Kept};
 use crate::found::Found;
 use crate::item::Item;
 use crate::look::look;
-use mm_base::{DepexFault, List, NoMemory};
+use crate::opcode::{AFTER, BEFORE, END};
+use mm_base::{DepexFault, GUID_BYTES, Guid, List, NoMemory, guid_at};
 use std::alloc::Global;
 
 /// Why bytes were not read as an expression.
@@ -38,7 +41,7 @@ impl From<NoMemory> for DepexEnd {
 /// The items of the condition that the bytes begin with; linear in them.
 fn read_items(alloc: Global, bytes: &[u8]) -> Result<List<Item>, DepexEnd>
     requires few { length bytes.now ≤ 16777216 }
-    requires first { names_another_driver bytes.now ≡ false }
+    requires first { names_driver bytes.now ≡ false }
     ensures condition { IfOk result (IsCondition bytes.now) }
     ensures fault { IfErr result (EndsBy (HasFaultInside bytes.now)) }
 {
@@ -55,5 +58,37 @@ fn read_items(alloc: Global, bytes: &[u8]) -> Result<List<Item>, DepexEnd>
                 at += item.len();
             }
         }
+    }
+}
+
+/// The name of a driver, from the bytes behind a BEFORE or AFTER that stands first.
+fn read_name(behind: &[u8]) -> Result<Guid, DepexFault>
+    ensures name { IfOk result (IsName behind.now) }
+    ensures fault { IfErr result (IsRefusedName behind.now) }
+{
+    let guid = match guid_at(behind, 0) {
+        Some(guid) if GUID_BYTES < behind.len() => guid,
+        _ => return Err(DepexFault::NoEnd),
+    };
+    let opcode = behind[GUID_BYTES];
+    if opcode == END {
+        return Ok(guid);
+    }
+    if END < opcode {
+        return Err(DepexFault::Unknown(17));
+    }
+    Err(DepexFault::BeforeNotFirst(17))
+}
+
+/// What is kept of the expression that the bytes begin with.
+fn read_kept(alloc: Global, bytes: &[u8]) -> Result<Kept, DepexEnd>
+    requires { length bytes.now ≤ 16777216 }
+    ensures expression { IfOk result (IsKeptOf bytes.now) }
+    ensures fault { IfErr result (EndsBy (HasFault bytes.now)) }
+{
+    match bytes {
+        [BEFORE, behind @ ..] => Ok(Kept::Before(read_name(behind)?)),
+        [AFTER, behind @ ..] => Ok(Kept::After(read_name(behind)?)),
+        _ => Ok(Kept::Items(read_items(alloc, bytes)?)),
     }
 }
