@@ -1,1 +1,4 @@
 pub mod WalkLemmas
+pub mod SightLemmas
+
+
