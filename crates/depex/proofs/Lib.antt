@@ -1,4 +1,4 @@
 pub mod WalkLemmas
 pub mod SightLemmas
-
-
+pub mod CourseLemmas
+pub mod LawLemmas
