@@ -13,4 +13,4 @@ mod reading;
 pub use expression::Depex;
 pub use installed::Installed;
 pub use mm_base::DepexFault;
-pub use reading::DepexEnd;
+pub use reading::{DepexEnd, parse};

@@ -1,5 +1,6 @@
 //! How an expression is read.
 ghost use Rattle.std.specs.Prelude.{◌≡◌, ◌≤◌, ◌⊎◌, length, true, false, Ok, Err, IfOk, IfErr};
+ghost use Rattle.mm_base.specs.declared.expression.DepexFault.{DepexFault as DepexFaultValue};
 ghost use Rattle.depex.specs.declared.reading.DepexEnd.TheVariants.{Fault as FaultOf, NoMemory as OutOfMemory};
 ghost use Rattle.depex.specs.Expressions.{Expression, IsExpression, IsRefusedName, HasFaultInside, HasFault};
 ghost use Rattle.depex.specs.Finding.{names_driver, IsCondition, IsName, IsKeptOf, EndsBy};
@@ -91,4 +92,19 @@ fn read_kept(alloc: Global, bytes: &[u8]) -> Result<Kept, DepexEnd>
         [AFTER, behind @ ..] => Ok(Kept::After(read_name(behind)?)),
         _ => Ok(Kept::Items(read_items(alloc, bytes)?)),
     }
+}
+
+/// The expression that stands at the front of bytes, or their first fault; bytes past its END are not read. One pass over the
+/// bytes, and the list of items is all the memory that is taken.
+pub fn parse(alloc: Global, bytes: &[u8]) -> Result<Depex, DepexEnd>
+    requires { length bytes.now ≤ 16777216 }
+    ensures expression { IfOk result (λ depex. (expression : Expression) × IsExpression bytes.now expression × (depex ≡ kept_of expression)) }
+    ensures fault { IfErr result (EndsBy (HasFault bytes.now)) }
+    ensures found { (expression : Expression) → IsExpression bytes.now expression
+        → (result ≡ Ok (kept_of expression)) ⊎ (result ≡ Err OutOfMemory) }
+    ensures first { (fault : DepexFaultValue) → HasFault bytes.now fault
+        → (result ≡ Err (FaultOf fault)) ⊎ (result ≡ Err OutOfMemory) }
+{
+    let kept = read_kept(alloc, bytes)?;
+    Ok(Depex { kept })
 }
