@@ -2,3 +2,4 @@ pub mod WalkLemmas
 pub mod SightLemmas
 pub mod CourseLemmas
 pub mod LawLemmas
+pub mod WorkLemmas

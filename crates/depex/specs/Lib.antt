@@ -3,3 +3,4 @@ pub mod Finding
 pub mod Keeping
 pub mod Laws
 pub mod Trees
+pub mod Working

@@ -3,6 +3,7 @@
 
 mod expression;
 mod found;
+mod holding;
 mod installed;
 mod item;
 mod look;
@@ -11,6 +12,7 @@ mod operands;
 mod reading;
 
 pub use expression::Depex;
+pub use holding::holds;
 pub use installed::Installed;
 pub use mm_base::DepexFault;
 pub use reading::{DepexEnd, parse};

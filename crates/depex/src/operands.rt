@@ -45,7 +45,8 @@ impl Operands {
     /// Takes the one on top.
     pub(crate) fn pop(&mut self) -> bool
         requires { 0 < length self.old }
-        ensures { self.old ≡ result ∷ self.new }
+        ensures value { self.old ≡ result ∷ self.new }
+        ensures room { length self.new < 256 }
     {
         self.count -= 1;
         self.values[self.count]
