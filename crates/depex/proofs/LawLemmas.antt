@@ -35,7 +35,7 @@ Tells all stop (Ok (After guid)) = ⊥
 Tells all stop (Err fault) = stop ≡ Refused fault
 
 -- Bytes don't begin with BEFORE or AFTER.
-abbrev NamesNone : List ℕ → Type 0
+abbrev pub NamesNone : List ℕ → Type 0
 NamesNone bytes = (opcode : ℕ) (behind : List ℕ) → bytes ≡ opcode ∷ behind → opcode ≤ after_opcode → ⊥
 
 -- a course over the bytes that stops, and what is told there

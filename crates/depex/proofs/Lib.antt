@@ -3,3 +3,4 @@ pub mod SightLemmas
 pub mod CourseLemmas
 pub mod LawLemmas
 pub mod WorkLemmas
+pub mod EitherLemmas

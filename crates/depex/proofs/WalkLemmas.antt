@@ -149,6 +149,11 @@ walked_stops bytes read count at fault walked stops =
     let P : ℕ → Type 0 = λ count. StopsAt count at (drop at bytes) fault in
     record { operands = walked.operands; at = at; there = drop at bytes; stands = walked.stands; stops = subst P walked.many stops }
 
+-- where no operand stands is the first place
+pub none_first : (operands : List Tree) (at : ℕ) → length operands ≡ 0 → at ≡ length (bytes_of (items_of operands)) → at ≡ 0
+none_first [] at none place = place
+none_first (tree ∷ before) at none place = absurd (omega (arith, none))
+
 -- its numbers stay small
 pub record IsNear (bytes : List ℕ) (count at : ℕ) : Type 0 where
   pub within : at ≤ length bytes
@@ -159,12 +164,8 @@ pub walked_near : (bytes : List ℕ) (read : List Item) (count at : ℕ) → Wal
 walked_near bytes read count at walked = record {
   within = omega (arith, walked.stands.place, ap length walked.stands.begins, length-append (bytes_of (items_of walked.operands)) (drop at bytes));
   room = omega (arith, few_operands walked.operands walked.stands.are, walked.many);
-  none = λ zero. none_first walked.operands (omega (arith, walked.many)) walked.stands.place;
+  none = λ zero. none_first walked.operands at (omega (arith, walked.many)) walked.stands.place;
 }
-  where
-    none_first : (operands : List Tree) → length operands ≡ 0 → at ≡ length (bytes_of (items_of operands)) → at ≡ 0
-    none_first [] none place = place
-    none_first (tree ∷ before) none place = absurd (omega (arith, none))
 
 -- ---- names of drivers
 

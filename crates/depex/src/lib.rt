@@ -6,6 +6,7 @@ mod found;
 mod holding;
 mod installed;
 mod item;
+pub mod laws;
 mod look;
 mod opcode;
 mod operands;

@@ -1,0 +1,15 @@
+//! Laws of dependency expressions. These functions do nothing: their contracts are the laws.
+ghost use Rattle.depex.specs.Laws.{ExpressionOrFault, NeverBoth, OneExpression, OneFault, OneTree};
+
+/// Bytes begin with one expression or have one fault, and never both.
+pub fn expression_or_fault()
+    ensures either { ExpressionOrFault }
+    ensures never_both { NeverBoth }
+    ensures one_expression { OneExpression }
+    ensures one_fault { OneFault }
+{}
+
+/// The items of a tree are those of no other.
+pub fn one_tree()
+    ensures { OneTree }
+{}
