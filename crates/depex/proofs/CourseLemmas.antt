@@ -10,6 +10,7 @@ use Rattle.depex.specs.declared.found.Found.TheVariants.{End, Next, Refused}
 use Rattle.depex.specs.Trees.{Tree, True, False, Push, Not, And, Or, postfix, need, opcode_of, taken_by, guid_of, item_bytes, bytes_of, HasGuids}
 use Rattle.depex.specs.Expressions.{items_of, AreOperands}
 use Rattle.depex.specs.Finding.{IsWhole, MayStand, FindsItem}
+use Rattle.depex.specs.Building.{built, tree_on, tree_on-postfix}
 use Rattle.depex.proofs.SightLemmas.{sight, next_seen}
 
 -- ---- courses
@@ -108,45 +109,6 @@ one_course n (item ∷ some) (more ∷ others) one other m k at to stop halt a s
 
 -- ---- the tree that items are those of
 
-abbrev negated : List Tree → List Tree
-negated [] = []
-negated (of ∷ before) = Not of ∷ before
-
-abbrev joined : (Tree → Tree → Tree) → List Tree → List Tree
-joined operator [] = []
-joined operator (right ∷ []) = []
-joined operator (right ∷ left ∷ before) = operator left right ∷ before
-
--- the operands that items build on top of others
-abbrev pub built : List Item → List Tree → List Tree
-built [] operands = operands
-built (items.Push guid ∷ all) operands = built all (Push guid ∷ operands)
-built (items.True ∷ all) operands = built all (True ∷ operands)
-built (items.False ∷ all) operands = built all (False ∷ operands)
-built (items.Not ∷ all) operands = built all (negated operands)
-built (items.And ∷ all) operands = built all (joined And operands)
-built (items.Or ∷ all) operands = built all (joined Or operands)
-
-pub built-postfix : (tree : Tree) (all : List Item) (operands : List Tree) → built (postfix tree ++ all) operands ≡ built all (tree ∷ operands)
-built-postfix True all operands = refl
-built-postfix False all operands = refl
-built-postfix (Push guid) all operands = refl
-built-postfix (Not of) all operands =
-    ap (λ (xs : List Item). built xs operands) (append_assoc (postfix of) (items.Not ∷ []) all) ∙ built-postfix of (items.Not ∷ all) operands
-built-postfix (And left right) all operands =
-    ap (λ (xs : List Item). built xs operands) (append_assoc (postfix left) (postfix right ++ items.And ∷ []) all
-      ∙ ap (λ (xs : List Item). postfix left ++ xs) (append_assoc (postfix right) (items.And ∷ []) all))
-    ∙ built-postfix left (postfix right ++ items.And ∷ all) operands
-    ∙ built-postfix right (items.And ∷ all) (left ∷ operands)
-built-postfix (Or left right) all operands =
-    ap (λ (xs : List Item). built xs operands) (append_assoc (postfix left) (postfix right ++ items.Or ∷ []) all
-      ∙ ap (λ (xs : List Item). postfix left ++ xs) (append_assoc (postfix right) (items.Or ∷ []) all))
-    ∙ built-postfix left (postfix right ++ items.Or ∷ all) operands
-    ∙ built-postfix right (items.Or ∷ all) (left ∷ operands)
-
 pub one_tree : (one other : Tree) → postfix one ≡ postfix other → one ≡ other
 one_tree one other same =
-    let a : built (postfix one) [] ≡ one ∷ [] = ap (λ (xs : List Item). built xs []) (sym (append-nil (postfix one))) ∙ built-postfix one [] [] in
-    let b : built (postfix other) [] ≡ other ∷ [] = ap (λ (xs : List Item). built xs []) (sym (append-nil (postfix other))) ∙ built-postfix other [] [] in
-    let e : one ∷ [] ≡ other ∷ [] = sym a ∙ ap (λ (xs : List Item). built xs []) same ∙ b in
-    cc
+    sym (tree_on-postfix one) ∙ ap (λ (all : List Item). tree_on (built all [])) same ∙ tree_on-postfix other

@@ -14,7 +14,8 @@ use Rattle.depex.specs.declared.reading.DepexEnd.{DepexEnd}
 use Rattle.depex.specs.declared.reading.DepexEnd.TheVariants as ends
 use Rattle.depex.specs.Trees.{Tree, True, False, Push, Not, And, Or, postfix, need, opcode_of, before_opcode, after_opcode, end_opcode, taken_by, guid_of, item_bytes, bytes_of, IsGuid, HasGuids}
 use Rattle.depex.specs.Expressions.{Expression, Condition, Before, After, IsExpression, items_of, AreOperands, StandsBehind, IsRefused, StopsAt, HasFaultInside, IsRefusedName, HasFaultInName, HasFault}
-use Rattle.depex.specs.Keeping.{kept_of}
+use Rattle.depex.specs.Building.{built, tree_on, tree_on-postfix}
+use Rattle.depex.specs.Keeping.{kept_of, expression_of}
 use Rattle.depex.specs.Finding.{IsName, IsKeptOf, EndsBy}
 use Rattle.depex.proofs.SightLemmas.{sight, ended, stops_seen}
 use Rattle.depex.proofs.CourseLemmas.{Leads, IsStop, tree_leads, operands_lead, one_course, one_tree}
@@ -285,15 +286,25 @@ pub one_fault : (bytes : List ℕ) (one other : DepexFault) → HasFault bytes o
 one_fault bytes one other a b = let e : Err one ≡ Err other = one_verdict bytes (Err one) (Err other) a b in cc
 
 -- what a reader answers is the expression, or the fault, that the bytes come to
-pub told_found : (bytes : List ℕ) (result : Result Kept DepexEnd) → IfOk result (IsKeptOf bytes) → IfErr result (EndsBy (HasFault bytes))
-    → (expression : Expression) → IsExpression bytes expression → (result ≡ Ok (kept_of expression)) ⊎ (result ≡ Err ends.NoMemory)
-told_found bytes (Ok kept) ok err expression is =
-    inl (ap Ok (ok.2 ∙ ap kept_of (one_expression bytes ok.0 expression ok.1 is)))
+pub told_found : (bytes : List ℕ) (result : Result Expression DepexEnd) → IfOk result (IsExpression bytes) → IfErr result (EndsBy (HasFault bytes))
+    → (expression : Expression) → IsExpression bytes expression → (result ≡ Ok expression) ⊎ (result ≡ Err ends.NoMemory)
+told_found bytes (Ok other) ok err expression is = inl (ap (λ (e : Expression). Ok e) (one_expression bytes other expression ok is))
 told_found bytes (Err (ends.Fault fault)) ok err expression is = absurd (never_both bytes expression fault is err)
 told_found bytes (Err ends.NoMemory) ok err expression is = inr refl
 
-pub told_first : (bytes : List ℕ) (result : Result Kept DepexEnd) → IfOk result (IsKeptOf bytes) → IfErr result (EndsBy (HasFault bytes))
+pub told_first : (bytes : List ℕ) (result : Result Expression DepexEnd) → IfOk result (IsExpression bytes) → IfErr result (EndsBy (HasFault bytes))
     → (fault : DepexFault) → HasFault bytes fault → (result ≡ Err (ends.Fault fault)) ⊎ (result ≡ Err ends.NoMemory)
-told_first bytes (Ok kept) ok err fault has = absurd (never_both bytes ok.0 fault ok.1 has)
+told_first bytes (Ok expression) ok err fault has = absurd (never_both bytes expression fault ok has)
 told_first bytes (Err (ends.Fault other)) ok err fault has = inl (ap (λ f. Err (ends.Fault f)) (one_fault bytes other fault err has))
 told_first bytes (Err ends.NoMemory) ok err fault has = inr refl
+
+-- what is kept of an expression stands for it
+pub expression_of-kept_of : (expression : Expression) → expression_of (kept_of expression) ≡ expression
+expression_of-kept_of (Condition tree) = ap (λ (t : Tree). Condition t) (tree_on-postfix tree)
+expression_of-kept_of (Before guid) = refl
+expression_of-kept_of (After guid) = refl
+
+pub kept_is : (bytes : List ℕ) (kept : Kept) → IsKeptOf bytes kept → IsExpression bytes (expression_of kept)
+kept_is bytes kept of =
+    let P : Expression → Type 0 = λ expression. IsExpression bytes expression in
+    subst P (sym (ap expression_of of.2 ∙ expression_of-kept_of of.0)) of.1

@@ -5,10 +5,12 @@ use Rattle.mm_base.specs.declared.guid.Guid.{Guid}
 use Rattle.depex.specs.declared.item.Item.{Item}
 use Rattle.depex.specs.declared.item.Item.TheVariants as items
 use Rattle.depex.specs.declared.expression.Kept.{Kept}
-use Rattle.depex.specs.declared.expression.Kept.TheVariants as kept
+use Rattle.depex.specs.declared.expression.Kept.TheVariants as kepts
 use Rattle.depex.specs.Trees.{Tree, True, False, Push, Not, And, Or, truth, postfix, need, taken_by, HasGuids}
 use Rattle.depex.specs.Expressions.{Expression, Condition, Before, After, IsSound}
-use Rattle.depex.specs.Keeping.{kept_of, IsKept}
+use Rattle.depex.specs.Building.{tree_on-postfix}
+use Rattle.depex.specs.Keeping.{kept_of, expression_of, IsKept}
+use Rattle.depex.specs.Meaning.{holds_on}
 use Rattle.depex.specs.Finding.{MayStand}
 use Rattle.depex.specs.Working.{AreItems, Works}
 use Rattle.depex.proofs.CourseLemmas.{Leads, tree_leads}
@@ -118,8 +120,12 @@ working_all has all values value below working is tree items =
     let e : value ∷ below ≡ truth has tree ∷ [] = sym is ∙ working.reaches tree items in
     cc
 
--- what is kept of a condition are the items of a tree
-pub kept_items : (all : List Item) → IsKept (kept.Items all) → AreItems all
-kept_items all (Condition tree, sound, is) = let same : all ≡ postfix tree = cc in (tree, sound.0, sound.1, same)
-kept_items all (Before guid, sound, is) = let e : kept.Items all ≡ kept.Before guid = is in cc
-kept_items all (After guid, sound, is) = let e : kept.Items all ≡ kept.After guid = is in cc
+-- so the truth of its tree is that of the expression that is kept
+pub held : (has : Guid → Bool) (kept : Kept) (all : List Item) (value : Bool) → IsKept kept → kept ≡ kepts.Items all
+    → ((tree : Tree) → all ≡ postfix tree → value ≡ truth has tree) → value ≡ holds_on has (expression_of kept)
+held has kept all value (Condition tree, sound, is) items truth_is =
+    let e : kepts.Items all ≡ kepts.Items (postfix tree) = sym items ∙ is in
+    let same : all ≡ postfix tree = cc in
+    truth_is tree same ∙ ap (λ (t : Tree). truth has t) (sym (tree_on-postfix tree)) ∙ ap (λ (k : Kept). holds_on has (expression_of k)) (sym is)
+held has kept all value (Before guid, sound, is) items truth_is = let e : kepts.Items all ≡ kepts.Before guid = sym items ∙ is in cc
+held has kept all value (After guid, sound, is) items truth_is = let e : kepts.Items all ≡ kepts.After guid = sym items ∙ is in cc

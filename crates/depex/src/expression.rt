@@ -1,6 +1,6 @@
 //! Dependency expressions that were read.
 ghost use Rattle.std.specs.Prelude.{◌≡◌};
-ghost use Rattle.depex.specs.Keeping.{named_before, named_after};
+ghost use Rattle.depex.specs.Meaning.{named_before, named_after};
 
 use crate::item::Item;
 use mm_base::{Guid, List};
@@ -24,12 +24,15 @@ pub struct Depex {
 }
 
 impl Model for Depex {
-    ghost use Rattle.depex.specs.declared.expression.Kept.{Kept};
-    ghost use Rattle.depex.specs.Keeping.{IsKept};
+    ghost use Rattle.depex.specs.Expressions.{Expression};
+    ghost use Rattle.depex.specs.ExpressionCode.{expression_code};
+    ghost use Rattle.depex.specs.Keeping.{expression_of, IsKept};
 
-    ghost Value = { Kept };
+    ghost Value = { Expression };
 
-    ghost view = { λ depex. depex.kept };
+    ghost coded = { expression_code };
+
+    ghost view = { λ depex. expression_of depex.kept };
 
     ghost invariant = { λ depex. IsKept depex.kept };
 }

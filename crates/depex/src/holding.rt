@@ -1,11 +1,9 @@
 //! Whether an expression holds.
-ghost use Rattle.std.specs.Prelude.{◌≡◌, length, true, false};
+ghost use Rattle.std.specs.Prelude.{◌≡◌, length};
 ghost use Rattle.depex.specs.Trees.{Tree, truth, postfix};
-ghost use Rattle.depex.specs.Expressions.{Expression, Condition, Before, After};
-ghost use Rattle.depex.specs.Keeping.{kept_of};
 ghost use Rattle.depex.specs.Finding.{MayStand};
+ghost use Rattle.depex.specs.Meaning.{holds_on};
 ghost use Rattle.depex.specs.Working.{AreItems, Works};
-ghost use Rattle.mm_base.specs.declared.guid.Guid.{Guid as GuidValue};
 
 use crate::expression::{Depex, Kept};
 use crate::installed::Installed;
@@ -53,9 +51,7 @@ fn condition_holds<I: Installed>(items: &[Item], installed: &I) -> bool
 /// Whether an expression holds on what is installed: a condition where its tree does, and a BEFORE or AFTER never. Linear in
 /// the items; it takes no memory.
 pub fn holds<I: Installed>(depex: &Depex, installed: &I) -> bool
-    ensures condition { (tree : Tree) → depex.now ≡ kept_of (Condition tree) → result ≡ truth (I.installed installed.now) tree }
-    ensures before { (guid : GuidValue) → depex.now ≡ kept_of (Before guid) → result ≡ false }
-    ensures after { (guid : GuidValue) → depex.now ≡ kept_of (After guid) → result ≡ false }
+    ensures { result ≡ holds_on (I.installed installed.now) depex.now }
 {
     match &depex.kept {
         Kept::Items(items) => condition_holds(items.as_slice(), installed),

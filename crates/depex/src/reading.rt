@@ -4,7 +4,6 @@ ghost use Rattle.mm_base.specs.declared.expression.DepexFault.{DepexFault as Dep
 ghost use Rattle.depex.specs.declared.reading.DepexEnd.TheVariants.{Fault as FaultOf, NoMemory as OutOfMemory};
 ghost use Rattle.depex.specs.Expressions.{Expression, IsExpression, IsRefusedName, HasFaultInside, HasFault};
 ghost use Rattle.depex.specs.Finding.{names_driver, IsCondition, IsName, IsKeptOf, EndsBy};
-ghost use Rattle.depex.specs.Keeping.{kept_of};
 
 use crate::expression::{Depex, Kept};
 use crate::found::Found;
@@ -98,10 +97,10 @@ fn read_kept(alloc: Global, bytes: &[u8]) -> Result<Kept, DepexEnd>
 /// bytes, and the list of items is all the memory that is taken.
 pub fn parse(alloc: Global, bytes: &[u8]) -> Result<Depex, DepexEnd>
     requires { length bytes.now ≤ 16777216 }
-    ensures expression { IfOk result (λ depex. (expression : Expression) × IsExpression bytes.now expression × (depex ≡ kept_of expression)) }
+    ensures expression { IfOk result (IsExpression bytes.now) }
     ensures fault { IfErr result (EndsBy (HasFault bytes.now)) }
     ensures found { (expression : Expression) → IsExpression bytes.now expression
-        → (result ≡ Ok (kept_of expression)) ⊎ (result ≡ Err OutOfMemory) }
+        → (result ≡ Ok expression) ⊎ (result ≡ Err OutOfMemory) }
     ensures first { (fault : DepexFaultValue) → HasFault bytes.now fault
         → (result ≡ Err (FaultOf fault)) ⊎ (result ≡ Err OutOfMemory) }
 {
