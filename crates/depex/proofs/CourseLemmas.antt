@@ -10,7 +10,7 @@ use Rattle.depex.specs.declared.found.Found.TheVariants.{End, Next, Refused}
 use Rattle.depex.specs.Trees.{Tree, True, False, Push, Not, And, Or, postfix, need, opcode_of, taken_by, guid_of, item_bytes, bytes_of, HasGuids}
 use Rattle.depex.specs.Expressions.{items_of, AreOperands}
 use Rattle.depex.specs.Finding.{IsWhole, MayStand, FindsItem}
-use Rattle.depex.specs.Building.{built, tree_on, tree_on-postfix}
+use Rattle.depex.specs.Building.{negated, joined, built, tree_on, built-postfix}
 use Rattle.depex.proofs.SightLemmas.{sight, next_seen}
 
 -- ---- courses
@@ -109,6 +109,22 @@ one_course n (item ∷ some) (more ∷ others) one other m k at to stop halt a s
 
 -- ---- the tree that items are those of
 
-pub one_tree : (one other : Tree) → postfix one ≡ postfix other → one ≡ other
-one_tree one other same =
-    sym (tree_on-postfix one) ∙ ap (λ (all : List Item). tree_on (built all [])) same ∙ tree_on-postfix other
+built-append : (some others : List Item) (operands : List Tree) → built (some ++ others) operands ≡ built others (built some operands)
+built-append [] others operands = refl
+built-append (items.Push guid ∷ some) others operands = built-append some others (Push guid ∷ operands)
+built-append (items.True ∷ some) others operands = built-append some others (True ∷ operands)
+built-append (items.False ∷ some) others operands = built-append some others (False ∷ operands)
+built-append (items.Not ∷ some) others operands = built-append some others (negated operands)
+built-append (items.And ∷ some) others operands = built-append some others (joined And operands)
+built-append (items.Or ∷ some) others operands = built-append some others (joined Or operands)
+
+-- the tree whose items end a list
+tree_at_end : (some : List Item) (tree : Tree) → tree_on (built (some ++ postfix tree) []) ≡ tree
+tree_at_end some tree =
+    let below : List Tree = built some [] in
+    ap (λ (operands : List Tree). tree_on operands)
+    (built-append some (postfix tree) [] ∙ ap (λ (all : List Item). built all below) (sym (append-nil (postfix tree))) ∙ built-postfix tree [] below)
+
+pub one_tree : (some others : List Item) (one other : Tree) → some ++ postfix one ≡ others ++ postfix other → one ≡ other
+one_tree some others one other same =
+    sym (tree_at_end some one) ∙ ap (λ (all : List Item). tree_on (built all [])) same ∙ tree_at_end others other

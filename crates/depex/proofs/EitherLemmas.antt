@@ -10,7 +10,7 @@ use Rattle.depex.specs.declared.item.Item.TheVariants as items
 use Rattle.depex.specs.declared.found.Found.{Found}
 use Rattle.depex.specs.declared.found.Found.TheVariants.{End, Next, Refused}
 use Rattle.depex.specs.Trees.{Tree, opcode_of, after_opcode, end_opcode, taken_by, guid_of, item_bytes, bytes_of}
-use Rattle.depex.specs.Expressions.{Expression, Condition, Before, After, IsExpression, items_of, StandsBehind, HasFault}
+use Rattle.depex.specs.Expressions.{Expression, Condition, Before, After, spelled, IsExpression, items_of, StandsBehind, HasFault}
 use Rattle.depex.specs.Finding.{IsWhole, Finds, IsName}
 use Rattle.depex.proofs.WalkLemmas.{stand_more, few_operands, none_first, ends_condition, name_is, before_is, after_is}
 use Rattle.depex.proofs.SightLemmas.{operand, operator, pushed, ended, judged, sight}
@@ -162,3 +162,7 @@ either bytes = told (verdict bytes)
     told : Verdict bytes → ((expression : Expression) × IsExpression bytes expression) ⊎ ((fault : DepexFault) × HasFault bytes fault)
     told (Ok expression, is) = inl (expression, is)
     told (Err fault, is) = inr (fault, is)
+
+pub same_past_end : (expression : Expression) (behind other : List ℕ) → IsExpression (spelled expression ++ behind) expression
+    → IsExpression (spelled expression ++ other) expression
+same_past_end expression behind other is = record { behind = other; begins = refl; sound = is.sound }

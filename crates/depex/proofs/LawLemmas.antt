@@ -188,7 +188,7 @@ of_a_kind bytes (Err fault) (inr has) =
 -- ---- one verdict of each kind
 
 told_once : (all : List Item) (stop : Found) (one other : Result Expression DepexFault) → Tells all stop one → Tells all stop other → one ≡ other
-told_once all stop (Ok (Condition a)) (Ok (Condition b)) p q = ap (λ (tree : Tree). Ok (Condition tree)) (one_tree a b (sym p.1 ∙ q.1))
+told_once all stop (Ok (Condition a)) (Ok (Condition b)) p q = ap (λ (tree : Tree). Ok (Condition tree)) (one_tree [] [] a b (sym p.1 ∙ q.1))
 told_once all stop (Ok (Condition a)) (Err g) p q = let e : End ≡ Refused g = sym p.0 ∙ q in cc
 told_once all stop (Err f) (Ok (Condition b)) p q = let e : Refused f ≡ End = sym p ∙ q.0 in cc
 told_once all stop (Err f) (Err g) p q = let e : Refused f ≡ Refused g = sym p ∙ q in let same : f ≡ g = cc in ap Err same

@@ -1,8 +1,9 @@
 -- Laws of dependency expressions: bytes are one expression, or have one fault, and not both; and items are those of one tree.
-use Rattle.std.specs.Prelude.{◌≡◌, ◌⊎◌, ℕ, List}
+use Rattle.std.specs.Prelude.{◌≡◌, ◌⊎◌, ℕ, List, ◌++◌}
 use Rattle.mm_base.specs.declared.expression.DepexFault.{DepexFault}
+use Rattle.depex.specs.declared.item.Item.{Item}
 use Rattle.depex.specs.Trees.{Tree, postfix}
-use Rattle.depex.specs.Expressions.{Expression, IsExpression, HasFault}
+use Rattle.depex.specs.Expressions.{Expression, spelled, IsExpression, HasFault}
 
 -- bytes begin with an expression, or have a fault
 abbrev pub ExpressionOrFault : Type 0
@@ -20,6 +21,13 @@ OneExpression = (bytes : List ℕ) (one other : Expression) → IsExpression byt
 abbrev pub OneFault : Type 0
 OneFault = (bytes : List ℕ) (one other : DepexFault) → HasFault bytes one → HasFault bytes other → one ≡ other
 
--- A tree is known by its items.
+-- Bytes past END change nothing.
+abbrev pub SamePastEnd : Type 0
+SamePastEnd =
+    (expression : Expression) (behind other : List ℕ)
+    → IsExpression (spelled expression ++ behind) expression
+    → IsExpression (spelled expression ++ other) expression
+
+-- A tree is known by its items, whatever stands in front of them.
 abbrev pub OneTree : Type 0
-OneTree = (one other : Tree) → postfix one ≡ postfix other → one ≡ other
+OneTree = (some others : List Item) (one other : Tree) → some ++ postfix one ≡ others ++ postfix other → one ≡ other

@@ -1,5 +1,5 @@
 //! Laws of dependency expressions. These functions do nothing: their contracts are the laws.
-ghost use Rattle.depex.specs.Laws.{ExpressionOrFault, NeverBoth, OneExpression, OneFault, OneTree};
+ghost use Rattle.depex.specs.Laws.{ExpressionOrFault, NeverBoth, OneExpression, OneFault, SamePastEnd, OneTree};
 
 /// Bytes begin with one expression or have one fault, and never both.
 pub fn expression_or_fault()
@@ -9,7 +9,12 @@ pub fn expression_or_fault()
     ensures one_fault { OneFault }
 {}
 
-/// The items of a tree are those of no other.
+/// Bytes past an expression's END change nothing of it.
+pub fn same_past_end()
+    ensures { SamePastEnd }
+{}
+
+/// Two trees whose items end one list are one.
 pub fn one_tree()
     ensures { OneTree }
 {}
