@@ -104,7 +104,7 @@ one_course n (item ∷ some) (more ∷ others) one other m k at to stop halt a s
     let P : Item → Type 0 = λ i. item_bytes item ++ (bytes_of some ++ one) ≡ item_bytes i ++ (bytes_of others ++ other) in
     let Q : Item → Type 0 = λ i. Leads (n - taken_by i + 1) others k in
     let rest = one_course (n - taken_by item + 1) some others one other m k at to stop halt a.1 seen stops (subst Q (sym same) b.1) met halts
-      (append_cancel_left (item_bytes item) (bytes_of some ++ one) (bytes_of others ++ other) (subst P (sym same) both)) in
+    (append_cancel_left (item_bytes item) (bytes_of some ++ one) (bytes_of others ++ other) (subst P (sym same) both)) in
     record { items = λ i. same i ∷ rest.items i; there = rest.there; many = rest.many }
 
 -- ---- the tree that items are those of

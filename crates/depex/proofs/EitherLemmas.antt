@@ -40,7 +40,7 @@ operator_found n at behind item false few some whole = record {
 
 pushed_found : (n at : ℕ) (behind : List ℕ) (full short : Bool) → (n == 256) ≡ full → nat_lt (length behind) 16 ≡ short → n ≤ 256
     → Finds n at (2 ∷ behind)
-      (if full then Refused (TooDeep at) else (if short then Refused NoEnd else Next (items.Push (record { 0 = take 16 behind }))))
+    (if full then Refused (TooDeep at) else (if short then Refused NoEnd else Next (items.Push (record { 0 = take 16 behind }))))
 pushed_found n at behind true short full lacks room = (refl, items.Push (record { 0 = [] }), refl, refl, grind (arith, nat_tests))
 pushed_found n at behind false true full lacks room = (refl, grind (arith, nat_tests), grind (arith, nat_tests))
 pushed_found n at behind false false full lacks room =
@@ -148,9 +148,9 @@ by_first opcode behind true is =
     by_name opcode behind (nat_le (length behind) 16) (get_or behind 16 0 == 8) (nat_lt 8 (get_or behind 16 0)) (grind (arith, nat_tests)) refl refl refl
 by_first opcode behind false is =
     verdict_from (opcode ∷ behind) (λ other rest e low.
-        let same : opcode ≡ other = cc in
-        let high : after_opcode < opcode = grind (arith, nat_tests) in
-        absurd (omega arith))
+    let same : opcode ≡ other = cc in
+    let high : after_opcode < opcode = grind (arith, nat_tests) in
+    absurd (omega arith))
 
 verdict : (bytes : List ℕ) → Verdict bytes
 verdict [] = verdict_from [] (λ opcode behind e low. let f : [] ≡ opcode ∷ behind = e in cc)

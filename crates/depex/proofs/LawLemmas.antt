@@ -256,7 +256,7 @@ one_of_a_kind : (bytes : List ℕ) (one other : Result Expression DepexFault) �
     → one ≡ other
 one_of_a_kind bytes one other (inl a) (inl b) =
     let same = one_course 0 a.all b.all a.there b.there a.many b.many (length (bytes_of a.all)) (length (bytes_of b.all)) a.stop b.stop
-      a.leads a.seen a.stops b.leads b.seen b.stops (sym a.begins ∙ b.begins) in
+    a.leads a.seen a.stops b.leads b.seen b.stops (sym a.begins ∙ b.begins) in
     let stop : a.stop ≡ b.stop = sym a.seen ∙ (λ i. sight (same.many i) (length (bytes_of (same.items i))) (same.there i)) ∙ b.seen in
     let P : List Item → Type 0 = λ all. Tells all b.stop one in
     let Q : Found → Type 0 = λ stop. Tells a.all stop one in

@@ -69,7 +69,7 @@ stand_more bytes operands at there item stands found =
       to = more.to;
       stands = record {
         begins = stands.begins ∙ ap (λ (xs : List ℕ). front ++ xs) found.begins ∙ sym (append_assoc front (item_bytes item) found.behind)
-               ∙ ap (λ (xs : List ℕ). xs ++ found.behind) (sym fronts);
+            ∙ ap (λ (xs : List ℕ). xs ++ found.behind) (sym fronts);
         place = omega (arith, stands.place, length-append front (item_bytes item), ap length fronts);
         are = more.are;
       };
@@ -102,8 +102,7 @@ ends_condition bytes operands at [] stands ends = absurd ends
 ends_condition bytes [] at (opcode ∷ behind) stands ends = absurd (omega (arith, ends.1))
 ends_condition bytes (left ∷ right ∷ before) at (opcode ∷ behind) stands ends = absurd (omega (arith, ends.1))
 ends_condition bytes (tree ∷ []) at (opcode ∷ behind) stands ends =
-    let front : List ℕ = bytes_of (postfix tree) in
-    (
+    let front : List ℕ = bytes_of (postfix tree) in (
       tree,
       record {
         behind = behind;

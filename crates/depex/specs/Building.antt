@@ -40,12 +40,12 @@ built-postfix (Not of) all operands =
     ap (λ (xs : List Item). built xs operands) (append_assoc (postfix of) (items.Not ∷ []) all) ∙ built-postfix of (items.Not ∷ all) operands
 built-postfix (And left right) all operands =
     ap (λ (xs : List Item). built xs operands) (append_assoc (postfix left) (postfix right ++ items.And ∷ []) all
-      ∙ ap (λ (xs : List Item). postfix left ++ xs) (append_assoc (postfix right) (items.And ∷ []) all))
+    ∙ ap (λ (xs : List Item). postfix left ++ xs) (append_assoc (postfix right) (items.And ∷ []) all))
     ∙ built-postfix left (postfix right ++ items.And ∷ all) operands
     ∙ built-postfix right (items.And ∷ all) (left ∷ operands)
 built-postfix (Or left right) all operands =
     ap (λ (xs : List Item). built xs operands) (append_assoc (postfix left) (postfix right ++ items.Or ∷ []) all
-      ∙ ap (λ (xs : List Item). postfix left ++ xs) (append_assoc (postfix right) (items.Or ∷ []) all))
+    ∙ ap (λ (xs : List Item). postfix left ++ xs) (append_assoc (postfix right) (items.Or ∷ []) all))
     ∙ built-postfix left (postfix right ++ items.Or ∷ all) operands
     ∙ built-postfix right (items.Or ∷ all) (left ∷ operands)
 

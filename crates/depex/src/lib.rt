@@ -11,6 +11,8 @@ mod look;
 mod opcode;
 mod operands;
 mod reading;
+#[cfg(test)]
+mod tests;
 
 pub use expression::Depex;
 pub use holding::holds;
