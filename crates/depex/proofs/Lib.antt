@@ -1,0 +1,6 @@
+pub mod WalkLemmas
+pub mod SightLemmas
+pub mod CourseLemmas
+pub mod LawLemmas
+pub mod WorkLemmas
+pub mod EitherLemmas

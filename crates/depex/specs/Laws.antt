@@ -1,0 +1,33 @@
+-- Laws of dependency expressions: bytes are one expression, or have one fault, and not both; and items are those of one tree.
+use Rattle.std.specs.Prelude.{◌≡◌, ◌⊎◌, ℕ, List, ◌++◌}
+use Rattle.mm_base.specs.declared.expression.DepexFault.{DepexFault}
+use Rattle.depex.specs.declared.item.Item.{Item}
+use Rattle.depex.specs.Trees.{Tree, postfix}
+use Rattle.depex.specs.Expressions.{Expression, spelled, IsExpression, HasFault}
+
+-- bytes begin with an expression, or have a fault
+abbrev pub ExpressionOrFault : Type 0
+ExpressionOrFault =
+    (bytes : List ℕ) → ((expression : Expression) × IsExpression bytes expression) ⊎ ((fault : DepexFault) × HasFault bytes fault)
+
+-- and never both
+abbrev pub NeverBoth : Type 0
+NeverBoth = (bytes : List ℕ) (expression : Expression) (fault : DepexFault) → IsExpression bytes expression → HasFault bytes fault → ⊥
+
+-- they begin with one expression at most, and have one fault at most
+abbrev pub OneExpression : Type 0
+OneExpression = (bytes : List ℕ) (one other : Expression) → IsExpression bytes one → IsExpression bytes other → one ≡ other
+
+abbrev pub OneFault : Type 0
+OneFault = (bytes : List ℕ) (one other : DepexFault) → HasFault bytes one → HasFault bytes other → one ≡ other
+
+-- Bytes past END change nothing.
+abbrev pub SamePastEnd : Type 0
+SamePastEnd =
+    (expression : Expression) (behind other : List ℕ)
+    → IsExpression (spelled expression ++ behind) expression
+    → IsExpression (spelled expression ++ other) expression
+
+-- A tree is known by its items, whatever stands in front of them.
+abbrev pub OneTree : Type 0
+OneTree = (some others : List Item) (one other : Tree) → some ++ postfix one ≡ others ++ postfix other → one ≡ other

@@ -1,0 +1,109 @@
+//! How an expression is read.
+ghost use Rattle.std.specs.Prelude.{◌≡◌, ◌≤◌, ◌⊎◌, length, true, false, Ok, Err, IfOk, IfErr};
+ghost use Rattle.mm_base.specs.declared.expression.DepexFault.{DepexFault as DepexFaultValue};
+ghost use Rattle.depex.specs.declared.reading.DepexEnd.TheVariants.{Fault as FaultOf, NoMemory as OutOfMemory};
+ghost use Rattle.depex.specs.Expressions.{Expression, IsExpression, IsRefusedName, HasFaultInside, HasFault};
+ghost use Rattle.depex.specs.Finding.{names_driver, IsCondition, IsName, IsKeptOf, EndsBy};
+
+use crate::expression::{Depex, Kept};
+use crate::found::Found;
+use crate::item::Item;
+use crate::look::look;
+use crate::opcode::{AFTER, BEFORE, END};
+use mm_base::{DepexFault, GUID_BYTES, Guid, List, NoMemory, guid_at};
+use std::alloc::Global;
+
+/// Why bytes were not read as an expression.
+#[derive(Clone, Copy, Debug, PartialEq, Eq)]
+pub enum DepexEnd {
+    /// They spell none.
+    Fault(DepexFault),
+    /// Memory was refused.
+    NoMemory,
+}
+
+impl From<DepexFault> for DepexEnd {
+    ghost from_gives = { λ fault end. end ≡ FaultOf fault };
+
+    fn from(fault: DepexFault) -> Self {
+        DepexEnd::Fault(fault)
+    }
+}
+
+impl From<NoMemory> for DepexEnd {
+    ghost from_gives = { λ _ end. end ≡ OutOfMemory };
+
+    fn from(_: NoMemory) -> Self {
+        DepexEnd::NoMemory
+    }
+}
+
+/// The items of the condition that the bytes begin with; linear in them.
+fn read_items(alloc: Global, bytes: &[u8]) -> Result<List<Item>, DepexEnd>
+    requires few { length bytes.now ≤ 16777216 }
+    requires first { names_driver bytes.now ≡ false }
+    ensures condition { IfOk result (IsCondition bytes.now) }
+    ensures fault { IfErr result (EndsBy (HasFaultInside bytes.now)) }
+{
+    let mut items = List::new(alloc);
+    let mut operands = 0;
+    let mut at = 0;
+    loop {
+        match look(bytes, at, operands) {
+            Found::End => return Ok(items),
+            Found::Refused(fault) => return Err(DepexEnd::Fault(fault)),
+            Found::Next(item) => {
+                items.push(item)?;
+                operands = operands - item.takes() + 1;
+                at += item.len();
+            }
+        }
+    }
+}
+
+/// The name of a driver, from the bytes behind a BEFORE or AFTER that stands first.
+fn read_name(behind: &[u8]) -> Result<Guid, DepexFault>
+    ensures name { IfOk result (IsName behind.now) }
+    ensures fault { IfErr result (IsRefusedName behind.now) }
+{
+    let guid = match guid_at(behind, 0) {
+        Some(guid) if GUID_BYTES < behind.len() => guid,
+        _ => return Err(DepexFault::NoEnd),
+    };
+    let opcode = behind[GUID_BYTES];
+    if opcode == END {
+        return Ok(guid);
+    }
+    if END < opcode {
+        return Err(DepexFault::Unknown(17));
+    }
+    Err(DepexFault::BeforeNotFirst(17))
+}
+
+/// What is kept of the expression that the bytes begin with.
+fn read_kept(alloc: Global, bytes: &[u8]) -> Result<Kept, DepexEnd>
+    requires { length bytes.now ≤ 16777216 }
+    ensures expression { IfOk result (IsKeptOf bytes.now) }
+    ensures fault { IfErr result (EndsBy (HasFault bytes.now)) }
+{
+    match bytes {
+        [BEFORE, behind @ ..] => Ok(Kept::Before(read_name(behind)?)),
+        [AFTER, behind @ ..] => Ok(Kept::After(read_name(behind)?)),
+        _ => Ok(Kept::Items(read_items(alloc, bytes)?)),
+    }
+}
+
+/// The expression that stands at the front of bytes, or their first fault; bytes past its END are not read. One pass over the
+/// bytes, and the list of items is all the memory that is taken.
+pub fn parse(alloc: Global, bytes: &[u8]) -> Result<Depex, DepexEnd>
+    requires { length bytes.now ≤ 16777216 }
+    ensures expression { IfOk result (IsExpression bytes.now) }
+    ensures fault { IfErr result (EndsBy (HasFault bytes.now)) }
+    ensures found { (expression : Expression) → IsExpression bytes.now expression
+        → (result ≡ Ok expression) ⊎ (result ≡ Err OutOfMemory) }
+    ensures first { (fault : DepexFaultValue) → HasFault bytes.now fault
+        → (result ≡ Err (FaultOf fault)) ⊎ (result ≡ Err OutOfMemory) }
+{
+    let kept = read_kept(alloc, bytes)?;
+    Ok(Depex { kept })
+}
