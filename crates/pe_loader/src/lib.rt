@@ -1,0 +1,9 @@
+//! Images in the PE32+ format, as UEFI uses them: what one is made of, and its bytes where it is loaded.
+#![tactic(auto)]
+
+mod checking;
+mod header;
+mod numbers;
+mod sections;
+
+pub use mm_base::{Image, Part, PeFault, PeKind};
