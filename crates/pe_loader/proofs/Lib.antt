@@ -1,2 +1,5 @@
 pub mod NumberLemmas
 pub mod HeaderLemmas
+pub mod RangeLemmas
+pub mod SectionLemmas
+pub mod FormLemmas

@@ -61,7 +61,7 @@ abbrev pub table_end : List ℕ → ℕ
 table_end bytes = section_at bytes (part_count bytes)
 
 -- the relocation directory, which is directory 5: none where there are no six directories, or where its size is 0
-abbrev pub relocs_of : List ℕ → Range
+unfoldable pub relocs_of : List ℕ → Range
 relocs_of bytes =
     let size = number_at bytes (optional_at bytes + 156) 4 in
     if nat_lt 5 (directory_count bytes) && not (size == 0)

@@ -27,6 +27,10 @@ pub record IsLaidOut (bytes : List ℕ) : Type 0 where
   pub each : (k : ℕ) → k < part_count bytes → LiesIn bytes (part_at bytes k)
   pub apart : (j k : ℕ) → j < k → k < part_count bytes → overlaps (range_of (part_at bytes j)) (range_of (part_at bytes k)) ≡ false
 
+-- The first few sections end at a place, or before it.
+abbrev pub EndBefore : List ℕ → ℕ → ℕ → Type 0
+EndBefore bytes count place = (j : ℕ) → j < count → (part_at bytes j).at + (part_at bytes j).length ≤ place
+
 -- the sections stand in the table in the order of their places
 abbrev pub AreInOrder : List ℕ → Type 0
 AreInOrder bytes = (k : ℕ) → k + 1 < part_count bytes → (part_at bytes k).at + (part_at bytes k).length ≤ (part_at bytes (k + 1)).at

@@ -138,6 +138,7 @@ pub(crate) fn section_at(bytes: &[u8], k: u16) -> usize
 }
 
 /// The relocation directory.
+#[tactic(auto, unfolding(crate::specs::Headers::relocs_of))]
 pub(crate) fn relocs(bytes: &[u8]) -> Range
     requires { HasHeaders bytes.now }
     ensures { result ≡ relocs_told bytes.now }

@@ -2,6 +2,7 @@
 #![tactic(auto)]
 
 mod checking;
+mod cursor;
 mod header;
 mod numbers;
 mod sections;

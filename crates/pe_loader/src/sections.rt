@@ -1,13 +1,15 @@
 //! The sections of an image, and its entry point.
-ghost use Rattle.std.specs.Prelude.{◌≡◌, ◌↔◌, ◌+◌, ◌*◌, ◌≤◌, ◌<◌, [], ◌∷◌, length, None, OnOk, IfErr, IsTrue};
+ghost use Rattle.std.specs.Prelude.{◌≡◌, ◌↔◌, ◌+◌, ◌*◌, ◌≤◌, ◌<◌, ◌&&◌, not, [], ◌∷◌, length, None, OnOk, IfErr, IsTrue};
 ghost use Rattle.std.specs.List.{list_any};
 ghost use Rattle.mm_base.specs.Checks.{first_failing};
 ghost use Rattle.pe_loader.specs.Headers.{section_at as section_place, optional_at as optional_place, part_count as part_count_told, FailsFirst};
 ghost use Rattle.pe_loader.specs.Sections.{part_at as part_told, rights_of, range_of as range_told, lies_in as is_within, overlaps_first as shares_with_first, section_checks, holds_code as has_code_at, parts, entry_passes as entry_is_fit, entry_check};
-ghost use Rattle.pe_loader.specs.Layout.{HasHeaders, AreInOrder};
+ghost use Rattle.pe_loader.specs.Layout.{HasHeaders, EndBefore, AreInOrder};
 
 use crate::checking::check;
-use crate::header::{EBC, field, headers_size, image_size, machine, optional_at, part_count, section_at};
+use crate::header::{
+    EBC, field, headers_size, image_size, machine, optional_at, part_count, section_at,
+};
 use crate::numbers::u32_at;
 use crate::{Part, PeFault, PeKind};
 use mm_base::Range;
@@ -35,7 +37,11 @@ pub(crate) fn part_at(bytes: &[u8], k: u16) -> Part
     let entry = section_at(bytes, k);
     let raw_size = u32_at(bytes, entry + 16);
     let virtual_size = u32_at(bytes, entry + 8);
-    let length = if virtual_size == 0 { raw_size } else { virtual_size };
+    let length = if virtual_size == 0 {
+        raw_size
+    } else {
+        virtual_size
+    };
     Part {
         at: u32_at(bytes, entry + 12),
         length,
@@ -79,6 +85,28 @@ fn overlaps_first(bytes: &[u8], part: &Part, count: u16) -> bool
     false
 }
 
+/// Whether a section shares a byte with one of the `count` in front of it, which all end at `highest` or before; at most linear in
+/// these.
+fn overlaps_earlier(bytes: &[u8], part: &Part, count: u16, highest: u32) -> bool
+    requires headers { HasHeaders bytes.now }
+    requires within { count ≤ part_count_told bytes.now }
+    requires highest { EndBefore bytes.now count highest }
+    ensures { result ≡ shares_with_first bytes.now part.now count }
+{
+    highest > part.at && overlaps_first(bytes, part, count)
+}
+
+/// Whether a section lies where it may, and overlaps none of the `count` in front of it, which all end at `highest` or before; at
+/// most linear in these.
+fn section_passes(bytes: &[u8], part: &Part, count: u16, highest: u32) -> bool
+    requires headers { HasHeaders bytes.now }
+    requires within { count ≤ part_count_told bytes.now }
+    requires highest { EndBefore bytes.now count highest }
+    ensures { result ≡ (is_within bytes.now part.now && not (shares_with_first bytes.now part.now count)) }
+{
+    lies_in(bytes, part) && !overlaps_earlier(bytes, part, count, highest)
+}
+
 /// Checks the sections in the order of their table; the first that fails is the fault. Linear in them where none begins in front of
 /// the end of an earlier one, and else at most their square.
 pub(crate) fn check_sections(bytes: &[u8]) -> Result<(), PeFault>
@@ -90,8 +118,7 @@ pub(crate) fn check_sections(bytes: &[u8]) -> Result<(), PeFault>
     let mut highest = 0;
     for k in 0..part_count(bytes) {
         let part = part_at(bytes, k);
-        let passes = lies_in(bytes, &part)
-            && (highest <= part.at || !overlaps_first(bytes, &part, k));
+        let passes = section_passes(bytes, &part, k, highest);
         check(passes, section_at(bytes, k) as u32, PeKind::Section)?;
         highest = highest.max(part.at + part.length);
     }
@@ -140,7 +167,11 @@ pub(crate) fn check_entry(bytes: &[u8]) -> Result<(), PeFault>
     ensures ok { OnOk result (first_failing (entry_check bytes.now ∷ []) ≡ None) }
     ensures fault { IfErr result (FailsFirst (entry_check bytes.now ∷ [])) }
 {
-    check(entry_passes(bytes), optional_at(bytes) as u32 + 16, PeKind::Entry)
+    check(
+        entry_passes(bytes),
+        optional_at(bytes) as u32 + 16,
+        PeKind::Entry,
+    )
 }
 
 /// Whether the sections stand in the table in the order of their places; linear in them.
