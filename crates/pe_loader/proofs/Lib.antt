@@ -3,3 +3,5 @@ pub mod HeaderLemmas
 pub mod RangeLemmas
 pub mod SectionLemmas
 pub mod FormLemmas
+pub mod BlockLemmas
+pub mod ImageLemmas

@@ -4,6 +4,8 @@ use Rattle.pe_loader.specs.Headers.{part_count}
 use Rattle.pe_loader.specs.Sections.{part_at}
 use Rattle.pe_loader.specs.Forms.{copies_to, plain_byte}
 use Rattle.pe_loader.specs.Layout.{EndBefore, AreInOrder}
+use Rattle.pe_loader.specs.Fixups.{block_at, is_block}
+use Rattle.pe_loader.specs.declared.relocations.Head.{Head}
 use Rattle.pe_loader.specs.declared.cursor.Cursor.{Cursor}
 use Rattle.pe_loader.specs.declared.cursor.Stretch.{Stretch}
 
@@ -25,3 +27,9 @@ pub record IsReady (bytes : List ℕ) (cursor : Cursor) (at : ℕ) : Type 0 wher
   pub ended : EndBefore bytes cursor.first at
   pub begun : cursor.stretch.begin ≤ at
   pub stretch : IsStretch bytes cursor.stretch
+
+-- a head is that of the block at a place
+pub record IsHead (bytes : List ℕ) (at : ℕ) (head : Head) : Type 0 where
+  pub there : is_block bytes at ≡ true
+  pub page : head.page ≡ (block_at bytes at).page
+  pub size : head.size ≡ (block_at bytes at).size

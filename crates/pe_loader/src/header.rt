@@ -141,7 +141,9 @@ pub(crate) fn section_at(bytes: &[u8], k: u16) -> usize
 #[tactic(auto, unfolding(crate::specs::Headers::relocs_of))]
 pub(crate) fn relocs(bytes: &[u8]) -> Range
     requires { HasHeaders bytes.now }
-    ensures { result ≡ relocs_told bytes.now }
+    ensures directory { result ≡ relocs_told bytes.now }
+    ensures base { result.base < 4294967296 }
+    ensures length { result.length < 4294967296 }
 {
     if directory_count(bytes) <= RELOCATIONS || field(bytes, 156) == 0 {
         return Range { base: 0, length: 0 };

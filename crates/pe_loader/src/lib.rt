@@ -3,8 +3,12 @@
 
 mod checking;
 mod cursor;
+mod fixup;
 mod header;
+mod inspecting;
 mod numbers;
+mod relocations;
 mod sections;
 
+pub use inspecting::{inspect, part};
 pub use mm_base::{Image, Part, PeFault, PeKind};
