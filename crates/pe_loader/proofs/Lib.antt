@@ -1,0 +1,7 @@
+pub mod NumberLemmas
+pub mod HeaderLemmas
+pub mod RangeLemmas
+pub mod SectionLemmas
+pub mod FormLemmas
+pub mod BlockLemmas
+pub mod ImageLemmas

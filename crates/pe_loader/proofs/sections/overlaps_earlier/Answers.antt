@@ -1,0 +1,9 @@
+use Rattle.std.proofs.Common.{ℕ, ◌+◌, ◌∙◌, sym, arith}
+use Rattle.std.proofs.lemmas.Bool.{le-ltb}
+use Rattle.pe_loader.proofs.SectionLemmas.{behind_all}
+use Rattle.pe_loader.proofs.sections.overlaps_earlier.Goals as goal
+
+pub returns-else-highest-part : goal.returns-else-highest-part
+returns-else-highest-part c =
+    le-ltb _ _ c.if-highest-part.false
+    ∙ sym (behind_all c.args.bytes.now c.args.part.now c.args.count (λ j h. omega (arith, c.requires.highest j h)))

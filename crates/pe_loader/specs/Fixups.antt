@@ -1,0 +1,99 @@
+-- The relocations of an image: PE32+ as UEFI images use it. The directory has blocks one behind another; a block has the address of a
+-- page, its own size, and an entry of two bytes for each fixup. They are read from the plain form.
+use Rattle.std.specs.Prelude.{◌≡◌, ℕ, zero, suc, ◌+◌, ◌-◌, ◌/◌, ◌%◌, Bool, true, false, if◌then◌else◌, ◌==◌, ◌&&◌, ◌||◌, not, nat_le, List, [], ◌∷◌}
+use Rattle.std.specs.List.{list_all, flat_map}
+use Rattle.mm_base.specs.Numbers.{number_at}
+use Rattle.mm_base.specs.Range.{overlaps}
+use Rattle.mm_base.specs.declared.range.Range.{Range}
+use Rattle.pe_loader.specs.Headers.{image_size, relocs_of}
+use Rattle.pe_loader.specs.Forms.{plain_form}
+use Rattle.pe_loader.specs.declared.fixup.Fixup.{Fixup}
+
+-- what an entry of a block says: its upper 4 bits are the kind, its lower 12 a place in the page
+abbrev pub fixup_of : ℕ → ℕ → Fixup
+fixup_of page word = record { kind = word / 4096; at = page + word % 4096 }
+
+-- the bytes that a fixup changes: four for kind 3, eight for kind 10, and two for kinds 1 and 2
+abbrev pub changed_by : Fixup → Range
+changed_by fixup = record { base = fixup.at; length = if fixup.kind == 3 then 4 else if fixup.kind == 10 then 8 else 2 }
+
+-- Whether a fixup of an image of this size and with this directory passes: of kind 0, which does nothing, no place is asked; one of
+-- another kind stays in the image, and doesn't touch the directory.
+abbrev pub fixup_passes : ℕ → Range → Fixup → Bool
+fixup_passes size directory fixup =
+    (fixup.kind == 0)
+    || (((fixup.kind == 1) || (fixup.kind == 2) || (fixup.kind == 3) || (fixup.kind == 10))
+    && nat_le (fixup.at + (changed_by fixup).length) size
+    && not (overlaps (changed_by fixup) directory))
+
+-- so many entries one behind another, of a block for this page
+abbrev pub fixups_from : List ℕ → ℕ → ℕ → ℕ → List Fixup
+fixups_from form page at zero = []
+fixups_from form page at (suc n) = fixup_of page (number_at form at 2) ∷ fixups_from form page (at + 2) n
+
+-- a block: its page, its size, and what its entries say
+pub record Block : Type 0 where
+  pub page : ℕ
+  pub size : ℕ
+  pub fixups : List Fixup
+
+-- the block at a place
+unfoldable pub block_at : List ℕ → ℕ → Block
+block_at bytes at =
+    let page = number_at (plain_form bytes) at 4 in
+    let size = number_at (plain_form bytes) (at + 4) 4 in
+    record { page = page; size = size; fixups = fixups_from (plain_form bytes) page (at + 8) ((size - 8) / 2) }
+
+-- where the directory ends
+abbrev pub directory_end : List ℕ → ℕ
+directory_end bytes = (relocs_of bytes).base + (relocs_of bytes).length
+
+-- whether the directory lies in the image
+abbrev pub directory_fits : List ℕ → Bool
+directory_fits bytes = nat_le (directory_end bytes) (image_size bytes)
+
+-- whether there is a block at a place: blocks end where fewer than 8 bytes are left, or one's size is 0
+unfoldable pub is_block : List ℕ → ℕ → Bool
+is_block bytes at = nat_le (at + 8) (directory_end bytes) && not ((block_at bytes at).size == 0)
+
+-- whether the block at a place passes: it has at least its two numbers, an even size that doesn't lead past the directory, and
+-- fixups that pass
+unfoldable pub block_passes : List ℕ → ℕ → Bool
+block_passes bytes at =
+    let block = block_at bytes at in
+    nat_le 8 block.size
+    && (block.size % 2 == 0)
+    && nat_le (at + block.size) (directory_end bytes)
+    && list_all (fixup_passes (image_size bytes) (relocs_of bytes)) block.fixups
+
+-- there is this block at a place, and it passes
+pub record IsBlockAt (bytes : List ℕ) (at : ℕ) (block : Block) : Type 0 where
+  pub there : is_block bytes at ≡ true
+  pub is : block ≡ block_at bytes at
+  pub passes : block_passes bytes at ≡ true
+
+-- Blocks that pass stand one behind another from a place on, and lead to another one.
+abbrev pub Leads : List ℕ → ℕ → List Block → ℕ → Type 0
+Leads bytes at [] to = at ≡ to
+Leads bytes at (block ∷ blocks) to = IsBlockAt bytes at block × Leads bytes (at + block.size) blocks to
+
+-- the fixups of blocks, in order
+abbrev pub fixups_in : List Block → List Fixup
+fixups_in blocks = flat_map (λ (block : Block). block.fixups) blocks
+
+-- The relocations are these fixups: the directory lies in the image, and blocks lead from its begin to where they end.
+pub record AreFixups (bytes : List ℕ) (fixups : List Fixup) : Type 0 where
+  pub fits : directory_fits bytes ≡ true
+  pub blocks : List Block
+  pub end : ℕ
+  pub leads : Leads bytes (relocs_of bytes).base blocks end
+  pub ends : is_block bytes end ≡ false
+  pub are : fixups ≡ fixups_in blocks
+
+-- blocks lead from the directory's begin to one that doesn't pass
+pub record LeadsToBad (bytes : List ℕ) : Type 0 where
+  pub blocks : List Block
+  pub at : ℕ
+  pub leads : Leads bytes (relocs_of bytes).base blocks at
+  pub there : is_block bytes at ≡ true
+  pub bad : block_passes bytes at ≡ false

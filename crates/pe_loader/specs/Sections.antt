@@ -1,0 +1,83 @@
+-- The sections of an image, and its entry point: PE32+ as UEFI images use it.
+use Rattle.std.specs.Prelude.{ℕ, zero, suc, ◌+◌, ◌%◌, Bool, true, false, if◌then◌else◌, ◌==◌, ◌&&◌, ◌||◌, not, nat_le, nat_lt, min, List, [], ◌∷◌, ◌++◌, map, length}
+use Rattle.std.specs.List.{range_with_len, list_any}
+use Rattle.mm_base.specs.Checks.{Check}
+use Rattle.mm_base.specs.Numbers.{number_at, has_bit}
+use Rattle.mm_base.specs.Range.{overlaps}
+use Rattle.mm_base.specs.declared.image.Part.{Part}
+use Rattle.mm_base.specs.declared.image.PeKind.{PeKind}
+use Rattle.mm_base.specs.declared.image.PeKind.TheVariants.{Section, Entry}
+use Rattle.mm_base.specs.declared.range.Range.{Range}
+use Rattle.pe_loader.specs.Headers.{optional_at, machine_of, part_count, entry_of, image_size, headers_size, section_at, header_checks}
+
+-- rights by a section's characteristics: 1 where it may be read, 2 where it may be written, 4 where it may be executed
+abbrev pub rights_of : ℕ → ℕ
+rights_of bits =
+    (if has_bit bits 0x4000_0000 then 1 else 0) + (if has_bit bits 0x8000_0000 then 2 else 0) + (if has_bit bits 0x2000_0000 then 4 else 0)
+
+-- the length of a section: its virtual size, or its raw size where that is 0
+abbrev pub part_length : List ℕ → ℕ → ℕ
+part_length bytes k =
+    let virtual = number_at bytes (section_at bytes k + 8) 4 in
+    if virtual == 0 then number_at bytes (section_at bytes k + 16) 4 else virtual
+
+-- the k-th section: as many bytes are copied as it has in the file, and no more than its length
+unfoldable pub part_at : List ℕ → ℕ → Part
+part_at bytes k = record {
+  at = number_at bytes (section_at bytes k + 12) 4;
+  length = part_length bytes k;
+  raw = number_at bytes (section_at bytes k + 20) 4;
+  copied = min (part_length bytes k) (number_at bytes (section_at bytes k + 16) 4);
+  rights = rights_of (number_at bytes (section_at bytes k + 36) 4);
+}
+
+-- the sections, in the order of their table
+abbrev pub parts : List ℕ → List Part
+parts bytes = map (part_at bytes) (range_with_len 0 (part_count bytes))
+
+-- the bytes of the image that a section takes
+abbrev pub range_of : Part → Range
+range_of part = record { base = part.at; length = part.length }
+
+-- whether a section shares a byte with one of the first n
+abbrev pub overlaps_first : List ℕ → Part → ℕ → Bool
+overlaps_first bytes part zero = false
+overlaps_first bytes part (suc n) = overlaps_first bytes part n || overlaps (range_of (part_at bytes n)) (range_of part)
+
+-- whether a section lies behind the headers and in the image, and what it copies lies in the file
+abbrev pub lies_in : List ℕ → Part → Bool
+lies_in bytes part =
+    nat_le (headers_size bytes) part.at
+    && nat_le (part.at + part.length) (image_size bytes)
+    && ((part.copied == 0) || nat_le (part.raw + part.copied) (length bytes))
+
+-- the check of the k-th section, which names its entry of the table: it lies where it may, and overlaps no earlier one
+abbrev pub section_check : List ℕ → ℕ → Check PeKind
+section_check bytes k = record {
+  kind = Section;
+  at = section_at bytes k;
+  passes = lies_in bytes (part_at bytes k) && not (overlaps_first bytes (part_at bytes k) k);
+}
+
+-- whether two bytes from a place on lie in a section that may be executed
+abbrev pub holds_code : ℕ → Part → Bool
+holds_code place part = has_bit part.rights 4 && nat_le part.at place && nat_le (place + 2) (part.at + part.length)
+
+-- whether the entry point is where code can begin: code of EBC is aligned to 2 and in a section; of native code, which never runs
+-- here, no more is asked than that it is in the image
+abbrev pub entry_passes : List ℕ → Bool
+entry_passes bytes =
+    if machine_of bytes == 0x0ebc
+    then (entry_of bytes % 2 == 0) && list_any (holds_code (entry_of bytes)) (parts bytes)
+    else nat_lt (entry_of bytes) (image_size bytes)
+
+abbrev pub entry_check : List ℕ → Check PeKind
+entry_check bytes = record { kind = Entry; at = optional_at bytes + 16; passes = entry_passes bytes }
+
+-- the checks of the sections, in the order of their table
+unfoldable pub section_checks : List ℕ → List (Check PeKind)
+section_checks bytes = map (section_check bytes) (range_with_len 0 (part_count bytes))
+
+-- all checks but that of the relocations, in order
+unfoldable pub checks : List ℕ → List (Check PeKind)
+checks bytes = header_checks bytes ++ section_checks bytes ++ (entry_check bytes ∷ [])

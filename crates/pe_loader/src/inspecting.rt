@@ -1,0 +1,89 @@
+//! Whether bytes are an image, and what it is made of.
+ghost use Rattle.std.specs.Prelude.{◌≡◌, ◌+◌, ◌≤◌, ◌<◌, List, length, None, Ok, Err, OnOk, IfOk, IfErr};
+ghost use Rattle.mm_base.specs.Checks.{first_failing};
+ghost use Rattle.mm_base.specs.declared.image.Image.{Image as ImageValue};
+ghost use Rattle.mm_base.specs.declared.image.PeFault.{PeFault as PeFaultValue};
+ghost use Rattle.pe_loader.specs.Headers.{FailsFirst};
+ghost use Rattle.pe_loader.specs.Sections.{part_at as part_told, checks};
+ghost use Rattle.pe_loader.specs.Images.{image_of as image_told, IsImage, IsImageOf, HasFault, HasBadRelocations, AreRead};
+ghost use Rattle.pe_loader.specs.Layout.{HasHeaders, IsLaidOut};
+ghost use Rattle.pe_loader.specs.declared.fixup.Fixup.{Fixup as FixupValue};
+
+use crate::checking::check;
+use crate::header::{
+    check_header, field, headers_size, image_size, machine, optional_at, part_count, relocs,
+    table_at,
+};
+use crate::relocations::relocs_pass;
+use crate::sections::{check_entry, check_sections, part_at};
+use crate::{Image, Part, PeFault, PeKind};
+use mm_base::number_at;
+
+/// What the headers say.
+#[tactic(auto, unfolding(crate::specs::Images::image_of))]
+fn image_of(bytes: &[u8]) -> Image
+    requires headers { HasHeaders bytes.now }
+    requires few { length bytes.now ≤ 16777216 }
+    ensures { result ≡ image_told bytes.now }
+{
+    Image {
+        machine: machine(bytes),
+        entry: field(bytes, 16),
+        base: number_at(bytes, optional_at(bytes) + 24, 8),
+        size: image_size(bytes),
+        headers: headers_size(bytes),
+        parts: part_count(bytes),
+        table: table_at(bytes) as u32,
+        relocs: relocs(bytes),
+    }
+}
+
+/// Makes all checks but that of the relocations; the first that fails is the fault.
+fn check_all(bytes: &[u8]) -> Result<(), PeFault>
+    requires { length bytes.now ≤ 16777216 }
+    ensures ok { OnOk result (first_failing (checks bytes.now) ≡ None) }
+    ensures laid_out { OnOk result (IsLaidOut bytes.now) }
+    ensures fault { IfErr result (FailsFirst (checks bytes.now)) }
+{
+    check_header(bytes)?;
+    check_sections(bytes)?;
+    check_entry(bytes)
+}
+
+/// Checks the relocations.
+fn check_relocs(bytes: &[u8]) -> Result<(), PeFault>
+    requires laid_out { IsLaidOut bytes.now }
+    requires few { length bytes.now ≤ 16777216 }
+    requires passes { first_failing (checks bytes.now) ≡ None }
+    ensures ok { OnOk result (AreRead bytes.now) }
+    ensures fault { IfErr result (HasBadRelocations bytes.now) }
+{
+    check(
+        relocs_pass(bytes),
+        optional_at(bytes) as u32 + 152,
+        PeKind::Reloc,
+    )
+}
+
+/// The image that bytes are, or the first fault that they have. Takes no memory; linear in the bytes and the fixups, and in the
+/// sections where their table is in the order of their places, and else at most in their square.
+pub fn inspect(bytes: &[u8]) -> Result<Image, PeFault>
+    requires { length bytes.now ≤ 16777216 }
+    ensures image { IfOk result (IsImageOf bytes.now) }
+    ensures fault { IfErr result (HasFault bytes.now) }
+    ensures found { (image : ImageValue) (fixups : List FixupValue) → IsImage bytes.now image fixups → result ≡ Ok image }
+    ensures first { (fault : PeFaultValue) → HasFault bytes.now fault → result ≡ Err fault }
+{
+    check_all(bytes)?;
+    check_relocs(bytes)?;
+    Ok(image_of(bytes))
+}
+
+/// The k-th section of an image.
+pub fn part(bytes: &[u8], image: &Image, k: u16) -> Part
+    requires image { IsImageOf bytes.now image.now }
+    requires within { k < image.now.parts }
+    ensures { result ≡ part_told bytes.now k }
+{
+    part_at(bytes, k)
+}

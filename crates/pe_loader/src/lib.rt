@@ -1,0 +1,14 @@
+//! Images in the PE32+ format, as UEFI uses them: what one is made of, and its bytes where it is loaded.
+#![tactic(auto)]
+
+mod checking;
+mod cursor;
+mod fixup;
+mod header;
+mod inspecting;
+mod numbers;
+mod relocations;
+mod sections;
+
+pub use inspecting::{inspect, part};
+pub use mm_base::{Image, Part, PeFault, PeKind};
