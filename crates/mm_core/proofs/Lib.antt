@@ -1,6 +1,7 @@
-pub mod CatalogLemmas
 pub mod BufferLemmas
+pub mod CatalogLemmas
 pub mod ChainRunLemmas
+pub mod ContentsLemmas
 pub mod LawLemmas
 pub mod ScriptLemmas
 pub mod StepLemmas

@@ -6,6 +6,7 @@ pub mod EntryLaws
 pub mod EntryStep
 pub mod HandlerChain
 pub mod Invoked
+pub mod KnownFiles
 pub mod Laws
 pub mod ManagedChain
 pub mod Scripted

@@ -3,12 +3,15 @@
 
 mod buffer;
 mod chain;
+mod driver_word;
+mod earlier;
 mod entry_step;
 mod file_word;
 mod header;
 mod invoke;
 pub mod laws;
 mod machine_core;
+mod policy_file;
 mod script_core;
 #[cfg(test)]
 mod tests;

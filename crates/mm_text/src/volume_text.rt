@@ -1,10 +1,10 @@
 //! The lines of a volume and its files.
 ghost use Rattle.std.specs.Prelude.{◌≡◌, ◌++◌, length, codes, OnOk};
 ghost use Rattle.mm_text.specs.Adds.{Adds};
-ghost use Rattle.mm_text.specs.VolumeLines.{system_word, volume_line, cause_word, file_words, file_line, files_lines};
+ghost use Rattle.mm_text.specs.VolumeLines.{system_word, volume_line, pe_word, depex_word, cause_words, file_words, file_line, files_lines};
 
 use crate::page::Page;
-use mm_base::{File, NoMemory, Volume};
+use mm_base::{DepexFault, File, NoMemory, PeFault, PeKind, Volume};
 use mm_core::{Cause, FileWord};
 
 /// The line of a volume.
@@ -59,30 +59,86 @@ fn put_word(page: &mut Page, word: FileWord) -> Result<(), NoMemory>
     ensures { OnOk result (Adds page.old (file_words word) page.new) }
 {
     match word {
-        FileWord::Pad => page.put(b"pad"),
+        FileWord::Driver => page.put(b"driver"),
+        FileWord::Native => page.put(b"native"),
         FileWord::Policy => page.put(b"policy"),
+        FileWord::Pad => page.put(b"pad"),
         FileWord::Passed => page.put(b"passed"),
-        FileWord::Refused(cause) => put_cause(page, cause),
-        FileWord::Unread => page.put(b"unread"),
+        FileWord::Refused(cause) => put_refused(page, cause),
     }
 }
 
-fn put_cause(page: &mut Page, cause: Cause) -> Result<(), NoMemory>
+fn put_refused(page: &mut Page, cause: Cause) -> Result<(), NoMemory>
     ensures { OnOk result (Adds page.old (file_words (FileWord.Refused cause)) page.new) }
 {
     page.put(b"refused ")?;
-    page.put_text(word_of_cause(cause))?;
+    put_cause(page, cause)?;
     Ok(())
 }
 
-fn word_of_cause(cause: Cause) -> &'static str
-    ensures { result.now ≡ cause_word cause }
+fn put_cause(page: &mut Page, cause: Cause) -> Result<(), NoMemory>
+    ensures { OnOk result (Adds page.old (cause_words cause) page.new) }
 {
     match cause {
-        Cause::BodySum => "bodysum",
-        Cause::SectionSize => "sectionsize",
-        Cause::Compressed => "compressed",
-        Cause::GuidDefined => "guiddefined",
-        Cause::NoImage => "noimage",
+        Cause::BodySum => page.put(b"bodysum"),
+        Cause::SectionSize => page.put(b"sectionsize"),
+        Cause::Compressed => page.put(b"compressed"),
+        Cause::GuidDefined => page.put(b"guiddefined"),
+        Cause::NoImage => page.put(b"noimage"),
+        Cause::Pe(fault) => put_pe(page, fault),
+        Cause::Depex(fault) => put_depex(page, fault),
+        Cause::Duplicate => page.put(b"duplicate"),
+    }
+}
+
+fn put_pe(page: &mut Page, fault: PeFault) -> Result<(), NoMemory>
+    ensures { OnOk result (Adds page.old (cause_words (Cause.Pe fault)) page.new) }
+{
+    page.put(b"pe ")?;
+    page.put_text(word_of_pe(fault.kind))?;
+    page.put(b" at ")?;
+    page.put_x8(fault.at)?;
+    Ok(())
+}
+
+fn word_of_pe(kind: PeKind) -> &'static str
+    ensures { result.now ≡ pe_word kind }
+{
+    match kind {
+        PeKind::Short => "short",
+        PeKind::Mz => "mz",
+        PeKind::Lfanew => "lfanew",
+        PeKind::Signature => "signature",
+        PeKind::Machine => "machine",
+        PeKind::Magic => "magic",
+        PeKind::Optional => "optional",
+        PeKind::Subsystem => "subsystem",
+        PeKind::Size => "size",
+        PeKind::Headers => "headers",
+        PeKind::Section => "section",
+        PeKind::Entry => "entry",
+        PeKind::Reloc => "reloc",
+    }
+}
+
+fn put_depex(page: &mut Page, fault: DepexFault) -> Result<(), NoMemory>
+    ensures { OnOk result (Adds page.old (cause_words (Cause.Depex fault)) page.new) }
+{
+    page.put(b"depex ")?;
+    page.put_text(word_of_depex(fault))?;
+    Ok(())
+}
+
+fn word_of_depex(fault: DepexFault) -> &'static str
+    ensures { result.now ≡ depex_word fault }
+{
+    match fault {
+        DepexFault::Empty => "empty",
+        DepexFault::NoEnd => "noend",
+        DepexFault::Unknown(_) => "unknown",
+        DepexFault::Underflow(_) => "underflow",
+        DepexFault::Leftover(_) => "leftover",
+        DepexFault::BeforeNotFirst(_) => "beforenotfirst",
+        DepexFault::TooDeep(_) => "toodeep",
     }
 }

@@ -1,30 +1,28 @@
-use Rattle.std.proofs.Common.{List, subst, sym, ◌∙◌, false}
+use Rattle.std.proofs.Common.{List, subst, sym}
 use Rattle.mm_base.specs.declared.volume.File.{File}
-use Rattle.mm_core.proofs.CatalogLemmas.{file_lies, SoFar, known_before, known_by_last, so_far_none, so_far_more, so_far_all, one_each}
+use Rattle.mm_core.proofs.CatalogLemmas.{file_lies, SoFar, so_far_none, so_far_more, so_far_all, one_each}
 use Rattle.mm_core.proofs.volume_catalog.catalog.Goals as goal
-use Rattle.mm_core.proofs.volume_catalog.catalog.Goals.{then-has_policy, else-has_policy}
+
+pub loop-file-init : goal.loop-file-init
+loop-file-init c =
+    let P : List File → Type 0 = λ left. SoFar c.args.bytes.now c.args.volume.now.files left c.new-words.result c.none-earlier.result in
+    subst P (sym c.as_slice-file-items.ensures)
+    (so_far_none c.args.bytes.now c.args.volume.now.files c.new-words.result c.none-earlier.result c.new-words.ensures c.none-earlier.ensures)
 
 pub word_of-requires-clause-within : goal.word_of-requires-clause-within
 word_of-requires-clause-within c =
     file_lies c.args.bytes.now c.args.volume.now c.as_slice-file-items.result.now c.loop-file.file-index _ c.requires.read c.as_slice-file-items.ensures c.loop-file-test.true
 
-pub loop-file-init : goal.loop-file-init
-loop-file-init c =
-    let P : List File → Type 0 = λ left. SoFar c.args.bytes.now c.args.volume.now.files left c.new-words.result false in
-    subst P (sym c.as_slice-file-items.ensures) (so_far_none c.args.bytes.now c.args.volume.now.files c.new-words.result c.new-words.ensures)
-
 pub loop-file-preserved : goal.loop-file-preserved
 loop-file-preserved c =
-    so_far_more c.args.bytes.now c.args.volume.now.files c.as_slice-file-items.result.now c.loop-file.file-index _ c.loop-file.words c.word_of.result
-    c.loop-file.has_policy c.if-has_policy.has_policy c.push.new.self c.loop-file-test.true c.loop-file.invariant c.word_of.ensures
-    (elim c.if-has_policy.branch [ then-has_policy w ↦ known_before _ _ _ w.if-has_policy.true (w.has_policy-is ∙ w.if-has_policy.true) | else-has_policy w ↦ known_by_last _ _ _ w.if-has_policy.false (w.has_policy-is ∙ w.is_policy-has_policy.ensures) ])
-    c.in_ok-push.ensures.ok
+    so_far_more c.args.bytes.now c.args.volume.now.files c.as_slice-file-items.result.now c.loop-file.file-index _ c.loop-file.words c.in_ok-word.word
+    c.loop-file.earlier c.keep.new.self c.push.new.self c.loop-file-test.true c.loop-file.invariant c.in_ok-word.ensures c.in_ok-push.ensures.ok c.in_ok-keep.ensures
 
 pub returns-clause-words : goal.returns-clause-words
 returns-clause-words c =
-    so_far_all c.args.bytes.now c.args.volume.now.files c.as_slice-file-items.result.now c.loop-file.file-index c.loop-file.words c.loop-file.has_policy c.loop-file-test.false c.loop-file.invariant
+    so_far_all c.args.bytes.now c.args.volume.now.files c.as_slice-file-items.result.now c.loop-file.file-index c.loop-file.words c.loop-file.earlier c.loop-file-test.false c.loop-file.invariant
 
 pub returns-clause-one_each : goal.returns-clause-one_each
 returns-clause-one_each c =
     one_each c.args.bytes.now c.args.volume.now.files c.loop-file.words
-    (so_far_all c.args.bytes.now c.args.volume.now.files c.as_slice-file-items.result.now c.loop-file.file-index c.loop-file.words c.loop-file.has_policy c.loop-file-test.false c.loop-file.invariant)
+    (so_far_all c.args.bytes.now c.args.volume.now.files c.as_slice-file-items.result.now c.loop-file.file-index c.loop-file.words c.loop-file.earlier c.loop-file-test.false c.loop-file.invariant)

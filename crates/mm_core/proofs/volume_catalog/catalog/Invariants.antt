@@ -3,4 +3,4 @@ use Rattle.mm_core.proofs.CatalogLemmas.{SoFar}
 use Rattle.mm_core.proofs.volume_catalog.catalog.Given as goal
 
 abbrev pub invariant-loop-file : goal.invariant-loop-file
-invariant-loop-file l = SoFar l.bytes l.volume.files (drop l.file-index l.file-items) l.words l.has_policy
+invariant-loop-file l = SoFar l.bytes l.volume.files (drop l.file-index l.file-items) l.words l.earlier

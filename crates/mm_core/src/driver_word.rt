@@ -1,0 +1,127 @@
+//! The word of a driver file.
+ghost use Rattle.std.specs.Prelude.{◌≡◌, ◌+◌, ◌≤◌, List, length, IfOk, IfSome, MatchOption};
+ghost use Rattle.mm_core.specs.Catalog.{Known, data_of, image_word as image_word_told, HasBadExpression, HasExpression, HasWordByImage, HasWordByContents, HasDriverWord};
+ghost use Rattle.mm_core.specs.KnownFiles.{Keeps, LieIn};
+
+use crate::earlier::Earlier;
+use crate::file_word::{Cause, FileWord};
+use depex::{DepexEnd, parse};
+use mm_base::{DepexFault, File, NoMemory, Section};
+use pe_loader::inspect;
+use std::alloc::Global;
+use volume_reader::{Contents, contents};
+
+/// IMAGE_FILE_MACHINE_EBC: the machine of EFI Byte Code.
+const EBC: u16 = 0x0ebc;
+
+/// The data of a section, behind its header.
+fn data<'a>(bytes: &'a [u8], section: &Section) -> &'a [u8]
+    requires { section.now.at + section.now.length ≤ length bytes.now }
+    ensures { result.now ≡ data_of bytes.now section.now }
+{
+    let (_, rest) = bytes.split_at(section.at as usize);
+    let (data, _) = rest.split_at(section.length as usize);
+    data
+}
+
+/// The word of a driver file behind others; linear in its bytes, and in its sections' fixups and items.
+pub(crate) fn driver_word(
+    alloc: Global,
+    bytes: &[u8],
+    file: &File,
+    earlier: &Earlier,
+) -> Result<FileWord, NoMemory>
+    requires within { file.now.body_at + file.now.body ≤ length bytes.now }
+    requires few { length bytes.now ≤ 16777216 }
+    ensures { IfOk result (λ word. (known : List Known) → Keeps earlier.now known → HasDriverWord bytes.now known file.now word) }
+{
+    if !file.sound {
+        return Ok(FileWord::Refused(Cause::BodySum));
+    }
+    match contents(bytes, file) {
+        Ok(told) => word_by_contents(alloc, bytes, file, &told, earlier),
+        Err(_) => Ok(FileWord::Refused(Cause::SectionSize)),
+    }
+}
+
+/// Its word by its contents.
+fn word_by_contents(
+    alloc: Global,
+    bytes: &[u8],
+    file: &File,
+    told: &Contents,
+    earlier: &Earlier,
+) -> Result<FileWord, NoMemory>
+    requires within { LieIn (length bytes.now) told.now }
+    requires few { length bytes.now ≤ 16777216 }
+    ensures { IfOk result (λ word. (known : List Known) → Keeps earlier.now known → HasWordByContents bytes.now known file.now told.now word) }
+{
+    if told.compressed {
+        return Ok(FileWord::Refused(Cause::Compressed));
+    }
+    if told.guid_defined {
+        return Ok(FileWord::Refused(Cause::GuidDefined));
+    }
+    match told.image {
+        Some(image) => word_by_image(alloc, bytes, file, &image, told.depex, earlier),
+        None => Ok(FileWord::Refused(Cause::NoImage)),
+    }
+}
+
+/// Its word by its image and its dependency expression.
+fn word_by_image(
+    alloc: Global,
+    bytes: &[u8],
+    file: &File,
+    image: &Section,
+    depex: Option<Section>,
+    earlier: &Earlier,
+) -> Result<FileWord, NoMemory>
+    requires image { image.now.at + image.now.length ≤ length bytes.now }
+    requires depex { IfSome depex (λ section. section.at + section.length ≤ length bytes.now) }
+    requires few { length bytes.now ≤ 16777216 }
+    ensures { IfOk result (λ word. (known : List Known) → Keeps earlier.now known → HasWordByImage bytes.now known file.now image.now depex word) }
+{
+    let found = match inspect(data(bytes, image)) {
+        Ok(found) => found,
+        Err(fault) => return Ok(FileWord::Refused(Cause::Pe(fault))),
+    };
+    match expression_fault(alloc, bytes, depex)? {
+        Some(fault) => Ok(FileWord::Refused(Cause::Depex(fault))),
+        None => Ok(image_word(file, found.machine, earlier)),
+    }
+}
+
+/// The first fault of a file's dependency expression, if it has one.
+fn expression_fault(
+    alloc: Global,
+    bytes: &[u8],
+    depex: Option<Section>,
+) -> Result<Option<DepexFault>, NoMemory>
+    requires within { IfSome depex (λ section. section.at + section.length ≤ length bytes.now) }
+    requires few { length bytes.now ≤ 16777216 }
+    ensures { IfOk result (λ fault. MatchOption fault (HasExpression bytes.now depex) (HasBadExpression bytes.now depex)) }
+{
+    let section = match depex {
+        Some(section) => section,
+        None => return Ok(None),
+    };
+    match parse(alloc, data(bytes, &section)) {
+        Ok(_) => Ok(None),
+        Err(DepexEnd::Fault(fault)) => Ok(Some(fault)),
+        Err(DepexEnd::NoMemory) => Err(NoMemory),
+    }
+}
+
+/// The word of a driver file whose image is for this machine, and is as it should be.
+fn image_word(file: &File, machine: u16, earlier: &Earlier) -> FileWord
+    ensures { (known : List Known) → Keeps earlier.now known → result ≡ image_word_told known file.now machine }
+{
+    if earlier.has_driver(file.name) {
+        FileWord::Refused(Cause::Duplicate)
+    } else if machine == EBC {
+        FileWord::Driver
+    } else {
+        FileWord::Native
+    }
+}
