@@ -2,18 +2,17 @@
 use Rattle.std.proofs.Common.{◌≡◌, ◌⊎◌, inl, inr, ℕ, zero, suc, ◌+◌, ◌<◌, ◌≤◌, Bool, true, false, if◌then◌else◌, ◌==◌, nat_lt, nat_le, List, [], ◌∷◌, ◌++◌, length, take, drop, get_or, Result, Ok, Err, refl, sym, ap, ◌∙◌, subst, length-append, arith}
 use Rattle.std.proofs.lemmas.List.{take-append-drop, length-take-le, nil_from_length}
 use Rattle.std.proofs.lemmas.Bool.Decides.{nat_tests}
-use Rattle.mm_base.specs.declared.guid.Guid.{Guid}
 use Rattle.mm_base.specs.declared.expression.DepexFault.{DepexFault}
 use Rattle.mm_base.specs.declared.expression.DepexFault.TheVariants.{NoEnd, Unknown, Underflow, BeforeNotFirst, TooDeep}
 use Rattle.depex.specs.declared.item.Item.{Item}
 use Rattle.depex.specs.declared.item.Item.TheVariants as items
 use Rattle.depex.specs.declared.found.Found.{Found}
 use Rattle.depex.specs.declared.found.Found.TheVariants.{End, Next, Refused}
-use Rattle.depex.specs.Trees.{Tree, opcode_of, after_opcode, end_opcode, taken_by, guid_of, item_bytes, bytes_of}
+use Rattle.depex.specs.Trees.{Tree, after_opcode, taken_by, guid_of, item_bytes, bytes_of}
 use Rattle.depex.specs.Expressions.{Expression, Condition, Before, After, spelled, IsExpression, items_of, StandsBehind, HasFault}
 use Rattle.depex.specs.Finding.{IsWhole, Finds, IsName}
 use Rattle.depex.proofs.WalkLemmas.{stand_more, few_operands, none_first, ends_condition, name_is, before_is, after_is}
-use Rattle.depex.proofs.SightLemmas.{operand, operator, pushed, ended, judged, sight}
+use Rattle.depex.proofs.SightLemmas.{ended, judged, sight}
 use Rattle.depex.proofs.LawLemmas.{IsVerdict, NamesNone}
 
 -- ---- what is seen at a place is found there

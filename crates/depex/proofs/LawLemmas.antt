@@ -1,6 +1,6 @@
 -- Bytes begin with one expression, or have one fault.
-use Rattle.std.proofs.Common.{◌≡◌, ◌≢◌, ◌⊎◌, inl, inr, ℕ, zero, suc, ◌+◌, ◌-◌, ◌<◌, ◌≤◌, Bool, true, false, if◌then◌else◌, ◌==◌, nat_lt, nat_le, List, [], ◌∷◌, ◌++◌, length, take, drop, get_or, Option, Some, None, Result, Ok, Err, IfOk, IfErr, refl, sym, ap, ◌∙◌, subst, append_assoc, length-append, arith}
-use Rattle.std.proofs.lemmas.List.{append-nil, take_at, get_or_at}
+use Rattle.std.proofs.Common.{◌≡◌, ◌⊎◌, inl, inr, ℕ, ◌+◌, ◌≤◌, if◌then◌else◌, ◌==◌, nat_lt, nat_le, List, [], ◌∷◌, ◌++◌, length, take, get_or, Option, Some, None, Result, Ok, Err, IfOk, IfErr, refl, sym, ap, ◌∙◌, subst, append_assoc, length-append, arith}
+use Rattle.std.proofs.lemmas.List.{take_at, get_or_at}
 use Rattle.std.proofs.lemmas.Bool.Decides.{nat_tests}
 use Rattle.mm_base.specs.declared.guid.Guid.{Guid}
 use Rattle.mm_base.specs.declared.expression.DepexFault.{DepexFault}
@@ -8,16 +8,16 @@ use Rattle.mm_base.specs.declared.expression.DepexFault.TheVariants.{Empty, NoEn
 use Rattle.depex.specs.declared.item.Item.{Item}
 use Rattle.depex.specs.declared.item.Item.TheVariants as items
 use Rattle.depex.specs.declared.found.Found.{Found}
-use Rattle.depex.specs.declared.found.Found.TheVariants.{End, Next, Refused}
+use Rattle.depex.specs.declared.found.Found.TheVariants.{End, Refused}
 use Rattle.depex.specs.declared.expression.Kept.{Kept}
 use Rattle.depex.specs.declared.reading.DepexEnd.{DepexEnd}
 use Rattle.depex.specs.declared.reading.DepexEnd.TheVariants as ends
-use Rattle.depex.specs.Trees.{Tree, True, False, Push, Not, And, Or, postfix, need, opcode_of, before_opcode, after_opcode, end_opcode, taken_by, guid_of, item_bytes, bytes_of, IsGuid, HasGuids}
-use Rattle.depex.specs.Expressions.{Expression, Condition, Before, After, IsExpression, items_of, AreOperands, StandsBehind, IsRefused, StopsAt, HasFaultInside, IsRefusedName, HasFaultInName, HasFault}
-use Rattle.depex.specs.Building.{built, tree_on, tree_on-postfix}
+use Rattle.depex.specs.Trees.{Tree, True, False, Push, Not, And, Or, postfix, opcode_of, before_opcode, after_opcode, end_opcode, item_bytes, bytes_of}
+use Rattle.depex.specs.Expressions.{Expression, Condition, Before, After, IsExpression, items_of, IsRefused, StopsAt, HasFaultInside, IsRefusedName, HasFault}
+use Rattle.depex.specs.Building.{tree_on-postfix}
 use Rattle.depex.specs.Keeping.{kept_of, expression_of}
 use Rattle.depex.specs.Finding.{IsName, IsKeptOf, EndsBy}
-use Rattle.depex.proofs.SightLemmas.{sight, ended, stops_seen}
+use Rattle.depex.proofs.SightLemmas.{sight, stops_seen}
 use Rattle.depex.proofs.CourseLemmas.{Leads, IsStop, tree_leads, operands_lead, one_course, one_tree}
 
 -- ---- what bytes come to: an expression or a fault

@@ -1,5 +1,5 @@
 -- Operands that stand one behind another, and one item more.
-use Rattle.std.proofs.Common.{◌≡◌, ℕ, suc, get_or, drop-cons, ◌+◌, ◌-◌, ◌<◌, ◌≤◌, max, List, [], ◌∷◌, ◌++◌, length, take, drop, refl, sym, ap, ◌∙◌, subst, append_assoc, length-append, arith}
+use Rattle.std.proofs.Common.{◌≡◌, ℕ, suc, get_or, drop-cons, ◌+◌, ◌-◌, ◌<◌, ◌≤◌, List, [], ◌∷◌, ◌++◌, length, take, drop, refl, sym, ap, ◌∙◌, subst, append_assoc, length-append, arith}
 use Rattle.std.proofs.lemmas.List.{append-nil, drop_at, take_all, take-append-drop}
 use Rattle.std.proofs.lemmas.List.Concat.{flat_map-append}
 use Rattle.depex.specs.declared.item.Item.{Item}
@@ -7,7 +7,7 @@ use Rattle.depex.specs.declared.item.Item.TheVariants as items
 use Rattle.depex.specs.Trees.{Tree, True, False, Push, Not, And, Or, postfix, need, taken_by, guid_of, item_bytes, bytes_of, before_opcode, after_opcode, end_opcode}
 use Rattle.mm_base.specs.declared.guid.Guid.{Guid}
 use Rattle.mm_base.specs.declared.expression.DepexFault.{DepexFault}
-use Rattle.depex.specs.Expressions.{Expression, Condition, Before, After, IsExpression, items_of, AreOperands, StandsBehind, StopsAt, HasFaultInside}
+use Rattle.depex.specs.Expressions.{Before, After, IsExpression, items_of, AreOperands, StandsBehind, StopsAt, HasFaultInside}
 use Rattle.depex.specs.Finding.{IsWhole, MayStand, FindsItem, EndsAt, IsCondition, IsName}
 
 -- the bytes of items and one more

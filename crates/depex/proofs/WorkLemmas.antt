@@ -1,15 +1,14 @@
 -- Items that are worked off one after another leave the truth of their tree.
-use Rattle.std.proofs.Common.{◌≡◌, ℕ, suc, ◌+◌, ◌-◌, ◌<◌, ◌≤◌, Bool, true, false, not, ◌&&◌, ◌||◌, List, [], ◌∷◌, ◌++◌, length, drop, get_or, refl, sym, ap, ◌∙◌, subst, append_assoc, arith}
-use Rattle.std.proofs.lemmas.List.{append-nil}
+use Rattle.std.proofs.Common.{◌≡◌, ℕ, ◌+◌, ◌-◌, Bool, true, false, not, ◌&&◌, ◌||◌, List, [], ◌∷◌, ◌++◌, length, refl, sym, ap, ◌∙◌, subst, arith}
 use Rattle.mm_base.specs.declared.guid.Guid.{Guid}
 use Rattle.depex.specs.declared.item.Item.{Item}
 use Rattle.depex.specs.declared.item.Item.TheVariants as items
 use Rattle.depex.specs.declared.expression.Kept.{Kept}
 use Rattle.depex.specs.declared.expression.Kept.TheVariants as kepts
-use Rattle.depex.specs.Trees.{Tree, True, False, Push, Not, And, Or, truth, postfix, need, taken_by, HasGuids}
-use Rattle.depex.specs.Expressions.{Expression, Condition, Before, After, IsSound}
+use Rattle.depex.specs.Trees.{Tree, True, False, Push, Not, And, Or, truth, postfix, taken_by}
+use Rattle.depex.specs.Expressions.{Condition, Before, After}
 use Rattle.depex.specs.Building.{tree_on-postfix}
-use Rattle.depex.specs.Keeping.{kept_of, expression_of, IsKept}
+use Rattle.depex.specs.Keeping.{expression_of, IsKept}
 use Rattle.depex.specs.Meaning.{holds_on}
 use Rattle.depex.specs.Finding.{MayStand}
 use Rattle.depex.specs.Working.{AreItems, Works}

@@ -4,7 +4,6 @@ use Rattle.mm_base.specs.declared.guid.Guid.{Guid}
 use Rattle.mm_base.specs.declared.expression.DepexFault.{DepexFault}
 use Rattle.mm_base.specs.declared.expression.DepexFault.TheVariants.{Empty, NoEnd, Unknown, Underflow, Leftover, BeforeNotFirst, TooDeep}
 use Rattle.depex.specs.declared.item.Item.{Item}
-use Rattle.depex.specs.declared.item.Item.TheVariants.{Push}
 use Rattle.depex.specs.Trees.{Tree, postfix, need, opcode_of, before_opcode, after_opcode, end_opcode, taken_by, bytes_of, IsGuid, HasGuids}
 
 -- an expression: a condition, or BEFORE or AFTER with the name of another driver
