@@ -73,7 +73,8 @@ pub record Same (some others : List Item) (one other : List ℕ) (m k : ℕ) : T
   pub many : m ≡ k
 
 -- where a course stops no item follows
-no_item : (n m at : ℕ) (there : List ℕ) (item : Item) (behind : List ℕ) (stop : Found) → n ≡ m → sight m at there ≡ stop → IsStop stop
+no_item : (n m at : ℕ) (there : List ℕ) (item : Item) (behind : List ℕ) (stop : Found) → n ≡ m → sight m at there ≡ stop
+    → IsStop stop
     → there ≡ item_bytes item ++ behind → Follows n item → ⊥
 no_item n m at there item behind stop same seen stops begins follows =
     let P : ℕ → Type 0 = λ n. Follows n item in
@@ -107,7 +108,8 @@ one_course n (item ∷ some) (more ∷ others) one other m k at to stop halt a s
 
 -- ---- the tree that items are those of
 
-built-append : (some others : List Item) (operands : List Tree) → built (some ++ others) operands ≡ built others (built some operands)
+built-append : (some others : List Item) (operands : List Tree)
+    → built (some ++ others) operands ≡ built others (built some operands)
 built-append [] others operands = refl
 built-append (items.Push guid ∷ some) others operands = built-append some others (Push guid ∷ operands)
 built-append (items.True ∷ some) others operands = built-append some others (True ∷ operands)

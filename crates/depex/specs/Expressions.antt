@@ -78,7 +78,7 @@ pub record HasFaultInside (bytes : List ℕ) (fault : DepexFault) : Type 0 where
   pub stands : StandsBehind bytes operands at there
   pub stops : StopsAt (length operands) at there fault
 
--- Behind a BEFORE or AFTER, which stands first, so many bytes lack some of the GUID or END; or behind the GUID, at place 17, there is
+-- Behind a BEFORE or AFTER that stands first, these bytes lack some of the GUID, or END; or behind the GUID, at place 17, stands
 -- no opcode, or another one than END.
 abbrev pub IsRefusedName : List ℕ → DepexFault → Type 0
 IsRefusedName behind NoEnd = length behind ≤ 16

@@ -4,8 +4,8 @@ use Rattle.mm_base.specs.declared.guid.Guid.{Guid}
 use Rattle.depex.specs.Trees.{truth}
 use Rattle.depex.specs.Expressions.{Expression, Condition, Before, After}
 
--- whether an expression holds, where this tells which GUIDs are installed: a condition where its tree is true, and BEFORE and AFTER
--- never
+-- whether an expression holds, where this tells which GUIDs are installed: a condition where its tree is true, and BEFORE and
+-- AFTER never
 abbrev pub holds_on : (Guid → Bool) → Expression → Bool
 holds_on installed (Condition tree) = truth installed tree
 holds_on installed (Before guid) = false
