@@ -54,7 +54,7 @@ record Inside (bytes : List ℕ) (verdict : Result Expression DepexFault) : Type
 
 -- the bytes behind a first BEFORE or AFTER come to this
 abbrev Names : ℕ → List ℕ → Result Expression DepexFault → Type 0
-Names opcode behind (Ok (Condition tree)) = ⊥
+Names opcode behind (Ok (Condition _)) = ⊥
 Names opcode behind (Ok (Before guid)) = (opcode ≡ before_opcode) × IsName behind guid
 Names opcode behind (Ok (After guid)) = (opcode ≡ after_opcode) × IsName behind guid
 Names opcode behind (Err fault) = IsRefusedName behind fault

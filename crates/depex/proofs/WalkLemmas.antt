@@ -155,7 +155,7 @@ walked_stops bytes read count at fault walked stops =
 -- where no operand stands is the first place
 pub none_first : (operands : List Tree) (at : ℕ) → length operands ≡ 0 → at ≡ length (bytes_of (items_of operands)) → at ≡ 0
 none_first [] at none place = place
-none_first (tree ∷ before) at none place = absurd (omega (arith, none))
+none_first (_ ∷ before) at none place = absurd (omega (arith, none))
 
 -- its numbers stay small
 pub record IsNear (bytes : List ℕ) (count at : ℕ) : Type 0 where
