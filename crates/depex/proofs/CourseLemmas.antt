@@ -1,15 +1,13 @@
 -- Items one behind another, as a number of operands grows and shrinks over them; two courses over the same bytes are one.
-use Rattle.std.proofs.Common.{◌≡◌, ◌⊎◌, inl, inr, ℕ, zero, suc, ◌+◌, ◌-◌, ◌<◌, ◌≤◌, max, List, [], ◌∷◌, ◌++◌, length, take, drop, refl, sym, ap, ◌∙◌, subst, append_assoc, length-append, arith}
+use Rattle.std.proofs.Common.{◌≡◌, ℕ, suc, ◌+◌, ◌-◌, ◌≤◌, List, [], ◌∷◌, ◌++◌, length, refl, sym, ap, ◌∙◌, subst, append_assoc, arith}
 use Rattle.std.proofs.lemmas.List.{append-nil, append_cancel_left}
-use Rattle.std.proofs.lemmas.List.Concat.{flat_map-append}
-use Rattle.mm_base.specs.declared.expression.DepexFault.{DepexFault}
 use Rattle.depex.specs.declared.item.Item.{Item}
 use Rattle.depex.specs.declared.item.Item.TheVariants as items
 use Rattle.depex.specs.declared.found.Found.{Found}
 use Rattle.depex.specs.declared.found.Found.TheVariants.{End, Next, Refused}
-use Rattle.depex.specs.Trees.{Tree, True, False, Push, Not, And, Or, postfix, need, opcode_of, taken_by, guid_of, item_bytes, bytes_of, HasGuids}
+use Rattle.depex.specs.Trees.{Tree, True, False, Push, Not, And, Or, postfix, need, taken_by, item_bytes, bytes_of, HasGuids}
 use Rattle.depex.specs.Expressions.{items_of, AreOperands}
-use Rattle.depex.specs.Finding.{IsWhole, MayStand, FindsItem}
+use Rattle.depex.specs.Finding.{IsWhole, MayStand}
 use Rattle.depex.specs.Building.{negated, joined, built, tree_on, built-postfix}
 use Rattle.depex.proofs.SightLemmas.{sight, next_seen}
 
@@ -75,7 +73,8 @@ pub record Same (some others : List Item) (one other : List ℕ) (m k : ℕ) : T
   pub many : m ≡ k
 
 -- where a course stops no item follows
-no_item : (n m at : ℕ) (there : List ℕ) (item : Item) (behind : List ℕ) (stop : Found) → n ≡ m → sight m at there ≡ stop → IsStop stop
+no_item : (n m at : ℕ) (there : List ℕ) (item : Item) (behind : List ℕ) (stop : Found) → n ≡ m → sight m at there ≡ stop
+    → IsStop stop
     → there ≡ item_bytes item ++ behind → Follows n item → ⊥
 no_item n m at there item behind stop same seen stops begins follows =
     let P : ℕ → Type 0 = λ n. Follows n item in
@@ -109,7 +108,8 @@ one_course n (item ∷ some) (more ∷ others) one other m k at to stop halt a s
 
 -- ---- the tree that items are those of
 
-built-append : (some others : List Item) (operands : List Tree) → built (some ++ others) operands ≡ built others (built some operands)
+built-append : (some others : List Item) (operands : List Tree)
+    → built (some ++ others) operands ≡ built others (built some operands)
 built-append [] others operands = refl
 built-append (items.Push guid ∷ some) others operands = built-append some others (Push guid ∷ operands)
 built-append (items.True ∷ some) others operands = built-append some others (True ∷ operands)

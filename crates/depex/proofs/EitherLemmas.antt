@@ -2,23 +2,23 @@
 use Rattle.std.proofs.Common.{◌≡◌, ◌⊎◌, inl, inr, ℕ, zero, suc, ◌+◌, ◌<◌, ◌≤◌, Bool, true, false, if◌then◌else◌, ◌==◌, nat_lt, nat_le, List, [], ◌∷◌, ◌++◌, length, take, drop, get_or, Result, Ok, Err, refl, sym, ap, ◌∙◌, subst, length-append, arith}
 use Rattle.std.proofs.lemmas.List.{take-append-drop, length-take-le, nil_from_length}
 use Rattle.std.proofs.lemmas.Bool.Decides.{nat_tests}
-use Rattle.mm_base.specs.declared.guid.Guid.{Guid}
 use Rattle.mm_base.specs.declared.expression.DepexFault.{DepexFault}
 use Rattle.mm_base.specs.declared.expression.DepexFault.TheVariants.{NoEnd, Unknown, Underflow, BeforeNotFirst, TooDeep}
 use Rattle.depex.specs.declared.item.Item.{Item}
 use Rattle.depex.specs.declared.item.Item.TheVariants as items
 use Rattle.depex.specs.declared.found.Found.{Found}
 use Rattle.depex.specs.declared.found.Found.TheVariants.{End, Next, Refused}
-use Rattle.depex.specs.Trees.{Tree, opcode_of, after_opcode, end_opcode, taken_by, guid_of, item_bytes, bytes_of}
+use Rattle.depex.specs.Trees.{Tree, after_opcode, taken_by, guid_of, item_bytes, bytes_of}
 use Rattle.depex.specs.Expressions.{Expression, Condition, Before, After, spelled, IsExpression, items_of, StandsBehind, HasFault}
 use Rattle.depex.specs.Finding.{IsWhole, Finds, IsName}
 use Rattle.depex.proofs.WalkLemmas.{stand_more, few_operands, none_first, ends_condition, name_is, before_is, after_is}
-use Rattle.depex.proofs.SightLemmas.{operand, operator, pushed, ended, judged, sight}
+use Rattle.depex.proofs.SightLemmas.{ended, judged, sight}
 use Rattle.depex.proofs.LawLemmas.{IsVerdict, NamesNone}
 
 -- ---- what is seen at a place is found there
 
-operand_found : (n at : ℕ) (behind : List ℕ) (item : Item) (full : Bool) → (n == 256) ≡ full → n ≤ 256 → taken_by item ≡ 0 → IsWhole item
+operand_found : (n at : ℕ) (behind : List ℕ) (item : Item) (full : Bool) → (n == 256) ≡ full → n ≤ 256
+    → taken_by item ≡ 0 → IsWhole item
     → Finds n at (item_bytes item ++ behind) (if full then Refused (TooDeep at) else Next item)
 operand_found n at behind item true full room none whole = (refl, item, refl, none, grind (arith, nat_tests))
 operand_found n at behind item false full room none whole = record {
@@ -28,7 +28,8 @@ operand_found n at behind item false full room none whole = record {
   may = record { enough = omega arith; room = λ _. grind (arith, nat_tests) };
 }
 
-operator_found : (n at : ℕ) (behind : List ℕ) (item : Item) (few : Bool) → nat_lt n (taken_by item) ≡ few → 1 ≤ taken_by item → IsWhole item
+operator_found : (n at : ℕ) (behind : List ℕ) (item : Item) (few : Bool) → nat_lt n (taken_by item) ≡ few
+    → 1 ≤ taken_by item → IsWhole item
     → Finds n at (item_bytes item ++ behind) (if few then Refused (Underflow at) else Next item)
 operator_found n at behind item true few some whole = (refl, item, refl, grind (arith, nat_tests))
 operator_found n at behind item false few some whole = record {
@@ -38,7 +39,8 @@ operator_found n at behind item false few some whole = record {
   may = record { enough = grind (arith, nat_tests); room = λ none. absurd (omega arith) };
 }
 
-pushed_found : (n at : ℕ) (behind : List ℕ) (full short : Bool) → (n == 256) ≡ full → nat_lt (length behind) 16 ≡ short → n ≤ 256
+pushed_found : (n at : ℕ) (behind : List ℕ) (full short : Bool) → (n == 256) ≡ full → nat_lt (length behind) 16 ≡ short
+    → n ≤ 256
     → Finds n at (2 ∷ behind)
     (if full then Refused (TooDeep at) else (if short then Refused NoEnd else Next (items.Push (record { 0 = take 16 behind }))))
 pushed_found n at behind true short full lacks room = (refl, items.Push (record { 0 = [] }), refl, refl, grind (arith, nat_tests))
@@ -70,7 +72,8 @@ judged_found n at behind (suc (suc (suc (suc (suc (suc (suc zero))))))) room non
 judged_found n at behind (suc (suc (suc (suc (suc (suc (suc (suc zero)))))))) room none first = ended_found n at behind none
 judged_found n at behind (suc (suc (suc (suc (suc (suc (suc (suc (suc opcode))))))))) room none first = (refl, omega arith)
 
-found_there : (n at : ℕ) (there : List ℕ) → n ≤ 256 → (n ≡ 0 → at ≡ 0) → (at ≡ 0 → NamesNone there) → Finds n at there (sight n at there)
+found_there : (n at : ℕ) (there : List ℕ) → n ≤ 256 → (n ≡ 0 → at ≡ 0) → (at ≡ 0 → NamesNone there)
+    → Finds n at there (sight n at there)
 found_there n at [] room none first = refl
 found_there n at (opcode ∷ behind) room none first = judged_found n at behind opcode room none first
 
@@ -79,7 +82,8 @@ found_there n at (opcode ∷ behind) room none first = judged_found n at behind 
 abbrev Verdict : List ℕ → Type 0
 Verdict bytes = (verdict : Result Expression DepexFault) × IsVerdict bytes verdict
 
-names_there : (bytes : List ℕ) (operands : List Tree) (at : ℕ) (there : List ℕ) → StandsBehind bytes operands at there → NamesNone bytes → at ≡ 0 → NamesNone there
+names_there : (bytes : List ℕ) (operands : List Tree) (at : ℕ) (there : List ℕ) → StandsBehind bytes operands at there
+    → NamesNone bytes → at ≡ 0 → NamesNone there
 names_there bytes operands at there stands names first =
     let none : bytes_of (items_of operands) ≡ [] = nil_from_length (bytes_of (items_of operands)) (sym stands.place ∙ first) in
     let same : bytes ≡ there = stands.begins ∙ ap (λ (xs : List ℕ). xs ++ there) none in
@@ -87,7 +91,8 @@ names_there bytes operands at there stands names first =
     subst P same names
 
 -- what comes of what is found, where what comes behind an item is known
-by_found : (bytes : List ℕ) (operands : List Tree) (at : ℕ) (there : List ℕ) (found : Found) → StandsBehind bytes operands at there
+by_found : (bytes : List ℕ) (operands : List Tree) (at : ℕ) (there : List ℕ) (found : Found)
+    → StandsBehind bytes operands at there
     → Finds (length operands) at there found
     → ((more : List Tree) (next : ℕ) (behind : List ℕ) → StandsBehind bytes more next behind → length behind < length there → Verdict bytes)
     → Verdict bytes
@@ -101,7 +106,8 @@ by_found bytes operands at there (Next item) stands finds on =
     on grown.to (at + (1 + length (guid_of item))) finds.behind grown.stands
     (omega (arith, ap length finds.begins, length-append (item_bytes item) finds.behind))
 
-course : (fuel : ℕ) (bytes : List ℕ) (operands : List Tree) (at : ℕ) (there : List ℕ) → StandsBehind bytes operands at there → NamesNone bytes
+course : (fuel : ℕ) (bytes : List ℕ) (operands : List Tree) (at : ℕ) (there : List ℕ)
+    → StandsBehind bytes operands at there → NamesNone bytes
     → length there < fuel → Verdict bytes
 course zero bytes operands at there stands names less = absurd (omega arith)
 course (suc fuel) bytes operands at there stands names less =
@@ -111,12 +117,14 @@ course (suc fuel) bytes operands at there stands names less =
 
 -- ---- a name
 
-named : (opcode : ℕ) (behind : List ℕ) → opcode ≤ after_opcode → IsName behind (record { 0 = take 16 behind }) → Verdict (opcode ∷ behind)
+named : (opcode : ℕ) (behind : List ℕ) → opcode ≤ after_opcode → IsName behind (record { 0 = take 16 behind })
+    → Verdict (opcode ∷ behind)
 named zero behind low name = (Ok (Before (record { 0 = take 16 behind })), before_is (zero ∷ behind) behind _ refl name)
 named (suc zero) behind low name = (Ok (After (record { 0 = take 16 behind })), after_is (1 ∷ behind) behind _ refl name)
 named (suc (suc opcode)) behind low name = absurd (omega arith)
 
-by_name : (opcode : ℕ) (behind : List ℕ) (short end above : Bool) → opcode ≤ after_opcode → nat_le (length behind) 16 ≡ short → (get_or behind 16 0 == 8) ≡ end
+by_name : (opcode : ℕ) (behind : List ℕ) (short end above : Bool) → opcode ≤ after_opcode
+    → nat_le (length behind) 16 ≡ short → (get_or behind 16 0 == 8) ≡ end
     → nat_lt 8 (get_or behind 16 0) ≡ above → Verdict (opcode ∷ behind)
 by_name opcode behind true end above low lacks ends is =
     (Err NoEnd, inr (record { opcode = opcode; behind = behind; begins = refl; names = low; refused = grind (arith, nat_tests) }))
@@ -156,7 +164,8 @@ verdict : (bytes : List ℕ) → Verdict bytes
 verdict [] = verdict_from [] (λ opcode behind e low. let f : [] ≡ opcode ∷ behind = e in cc)
 verdict (opcode ∷ behind) = by_first opcode behind (nat_le opcode after_opcode) refl
 
-pub either : (bytes : List ℕ) → ((expression : Expression) × IsExpression bytes expression) ⊎ ((fault : DepexFault) × HasFault bytes fault)
+pub either : (bytes : List ℕ)
+    → ((expression : Expression) × IsExpression bytes expression) ⊎ ((fault : DepexFault) × HasFault bytes fault)
 either bytes = told (verdict bytes)
   where
     told : Verdict bytes → ((expression : Expression) × IsExpression bytes expression) ⊎ ((fault : DepexFault) × HasFault bytes fault)

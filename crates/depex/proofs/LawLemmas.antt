@@ -1,6 +1,6 @@
 -- Bytes begin with one expression, or have one fault.
-use Rattle.std.proofs.Common.{◌≡◌, ◌≢◌, ◌⊎◌, inl, inr, ℕ, zero, suc, ◌+◌, ◌-◌, ◌<◌, ◌≤◌, Bool, true, false, if◌then◌else◌, ◌==◌, nat_lt, nat_le, List, [], ◌∷◌, ◌++◌, length, take, drop, get_or, Option, Some, None, Result, Ok, Err, IfOk, IfErr, refl, sym, ap, ◌∙◌, subst, append_assoc, length-append, arith}
-use Rattle.std.proofs.lemmas.List.{append-nil, take_at, get_or_at}
+use Rattle.std.proofs.Common.{◌≡◌, ◌⊎◌, inl, inr, ℕ, ◌+◌, ◌≤◌, if◌then◌else◌, ◌==◌, nat_lt, nat_le, List, [], ◌∷◌, ◌++◌, length, take, get_or, Option, Some, None, Result, Ok, Err, IfOk, IfErr, refl, sym, ap, ◌∙◌, subst, append_assoc, length-append, arith}
+use Rattle.std.proofs.lemmas.List.{take_at, get_or_at}
 use Rattle.std.proofs.lemmas.Bool.Decides.{nat_tests}
 use Rattle.mm_base.specs.declared.guid.Guid.{Guid}
 use Rattle.mm_base.specs.declared.expression.DepexFault.{DepexFault}
@@ -8,16 +8,16 @@ use Rattle.mm_base.specs.declared.expression.DepexFault.TheVariants.{Empty, NoEn
 use Rattle.depex.specs.declared.item.Item.{Item}
 use Rattle.depex.specs.declared.item.Item.TheVariants as items
 use Rattle.depex.specs.declared.found.Found.{Found}
-use Rattle.depex.specs.declared.found.Found.TheVariants.{End, Next, Refused}
+use Rattle.depex.specs.declared.found.Found.TheVariants.{End, Refused}
 use Rattle.depex.specs.declared.expression.Kept.{Kept}
 use Rattle.depex.specs.declared.reading.DepexEnd.{DepexEnd}
 use Rattle.depex.specs.declared.reading.DepexEnd.TheVariants as ends
-use Rattle.depex.specs.Trees.{Tree, True, False, Push, Not, And, Or, postfix, need, opcode_of, before_opcode, after_opcode, end_opcode, taken_by, guid_of, item_bytes, bytes_of, IsGuid, HasGuids}
-use Rattle.depex.specs.Expressions.{Expression, Condition, Before, After, IsExpression, items_of, AreOperands, StandsBehind, IsRefused, StopsAt, HasFaultInside, IsRefusedName, HasFaultInName, HasFault}
-use Rattle.depex.specs.Building.{built, tree_on, tree_on-postfix}
+use Rattle.depex.specs.Trees.{Tree, True, False, Push, Not, And, Or, postfix, opcode_of, before_opcode, after_opcode, end_opcode, item_bytes, bytes_of}
+use Rattle.depex.specs.Expressions.{Expression, Condition, Before, After, IsExpression, items_of, IsRefused, StopsAt, HasFaultInside, IsRefusedName, HasFault}
+use Rattle.depex.specs.Building.{tree_on-postfix}
 use Rattle.depex.specs.Keeping.{kept_of, expression_of}
 use Rattle.depex.specs.Finding.{IsName, IsKeptOf, EndsBy}
-use Rattle.depex.proofs.SightLemmas.{sight, ended, stops_seen}
+use Rattle.depex.proofs.SightLemmas.{sight, stops_seen}
 use Rattle.depex.proofs.CourseLemmas.{Leads, IsStop, tree_leads, operands_lead, one_course, one_tree}
 
 -- ---- what bytes come to: an expression or a fault
@@ -54,7 +54,7 @@ record Inside (bytes : List ℕ) (verdict : Result Expression DepexFault) : Type
 
 -- the bytes behind a first BEFORE or AFTER come to this
 abbrev Names : ℕ → List ℕ → Result Expression DepexFault → Type 0
-Names opcode behind (Ok (Condition tree)) = ⊥
+Names opcode behind (Ok (Condition _)) = ⊥
 Names opcode behind (Ok (Before guid)) = (opcode ≡ before_opcode) × IsName behind guid
 Names opcode behind (Ok (After guid)) = (opcode ≡ after_opcode) × IsName behind guid
 Names opcode behind (Err fault) = IsRefusedName behind fault
@@ -76,7 +76,8 @@ high items.Not = omega arith
 high items.True = omega arith
 high items.False = omega arith
 
-item_first : (item : Item) (rest : List ℕ) (opcode : ℕ) (behind : List ℕ) → item_bytes item ++ rest ≡ opcode ∷ behind → opcode ≤ after_opcode → ⊥
+item_first : (item : Item) (rest : List ℕ) (opcode : ℕ) (behind : List ℕ) → item_bytes item ++ rest ≡ opcode ∷ behind
+    → opcode ≤ after_opcode → ⊥
 item_first item rest opcode behind e low =
     let same : opcode_of item ≡ opcode = cc in
     absurd (omega (arith, high item))
@@ -104,7 +105,8 @@ condition_names [] behind some opcode rest e low = absurd (omega arith)
 condition_names (item ∷ all) behind some opcode rest e low =
     item_first item (bytes_of all ++ behind) opcode rest (sym (append_assoc (item_bytes item) (bytes_of all) behind) ∙ e) low
 
-refused_names : (n opcode : ℕ) (behind : List ℕ) (fault : DepexFault) → IsRefused n 0 opcode behind fault → opcode ≤ after_opcode → ⊥
+refused_names : (n opcode : ℕ) (behind : List ℕ) (fault : DepexFault) → IsRefused n 0 opcode behind fault
+    → opcode ≤ after_opcode → ⊥
 refused_names n opcode behind Empty refused low = absurd (omega (arith, refused.1))
 refused_names n opcode behind (Leftover place) refused low = absurd (omega (arith, refused.1))
 refused_names n opcode behind NoEnd refused low = absurd (omega (arith, refused.0))
@@ -120,7 +122,8 @@ stops_names n at (there ∷ rest) fault first stops opcode behind e low =
     let P : ℕ → Type 0 = λ at. IsRefused n at there rest fault in
     refused_names n there rest fault (subst P first stops) (omega (arith, same))
 
-fault_names : (all : List Item) (n at : ℕ) (there : List ℕ) (fault : DepexFault) → at ≡ length (bytes_of all) → StopsAt n at there fault
+fault_names : (all : List Item) (n at : ℕ) (there : List ℕ) (fault : DepexFault) → at ≡ length (bytes_of all)
+    → StopsAt n at there fault
     → NamesNone (bytes_of all ++ there)
 fault_names [] n at there fault place stops = stops_names n at there fault place stops
 fault_names (item ∷ all) n at there fault place stops = condition_names (item ∷ all) there (omega arith)
@@ -165,7 +168,8 @@ inside_fault bytes fault has =
       names = subst P (sym has.stands.begins) (fault_names all n has.at has.there fault has.stands.place has.stops);
     }
 
-of_a_kind : (bytes : List ℕ) (verdict : Result Expression DepexFault) → IsVerdict bytes verdict → Inside bytes verdict ⊎ Naming bytes verdict
+of_a_kind : (bytes : List ℕ) (verdict : Result Expression DepexFault) → IsVerdict bytes verdict
+    → Inside bytes verdict ⊎ Naming bytes verdict
 of_a_kind bytes (Ok (Condition tree)) is = inl (inside_condition bytes tree is)
 of_a_kind bytes (Ok (Before guid)) is = inr (record {
   opcode = before_opcode;
@@ -187,7 +191,8 @@ of_a_kind bytes (Err fault) (inr has) =
 
 -- ---- one verdict of each kind
 
-told_once : (all : List Item) (stop : Found) (one other : Result Expression DepexFault) → Tells all stop one → Tells all stop other → one ≡ other
+told_once : (all : List Item) (stop : Found) (one other : Result Expression DepexFault) → Tells all stop one
+    → Tells all stop other → one ≡ other
 told_once all stop (Ok (Condition a)) (Ok (Condition b)) p q = ap (λ (tree : Tree). Ok (Condition tree)) (one_tree [] [] a b (sym p.1 ∙ q.1))
 told_once all stop (Ok (Condition a)) (Err g) p q = let e : End ≡ Refused g = sym p.0 ∙ q in cc
 told_once all stop (Err f) (Ok (Condition b)) p q = let e : Refused f ≡ End = sym p ∙ q.0 in cc
@@ -234,7 +239,8 @@ one_name behind one other a b =
     let same : one.0 ≡ other.0 = sym fst ∙ snd in
     λ i. record { 0 = same i }
 
-named_once : (opcode : ℕ) (behind : List ℕ) (one other : Result Expression DepexFault) → Names opcode behind one → Names opcode behind other → one ≡ other
+named_once : (opcode : ℕ) (behind : List ℕ) (one other : Result Expression DepexFault) → Names opcode behind one
+    → Names opcode behind other → one ≡ other
 named_once opcode behind (Ok (Condition a)) other p q = absurd p
 named_once opcode behind (Ok (Before a)) (Ok (Condition b)) p q = absurd q
 named_once opcode behind (Ok (Before a)) (Ok (Before b)) p q = ap (λ (guid : Guid). Ok (Before guid)) (one_name behind a b p.1 q.1)
@@ -252,7 +258,8 @@ named_once opcode behind (Err f) (Err g) p q =
     let same : f ≡ g = cc in
     ap Err same
 
-one_of_a_kind : (bytes : List ℕ) (one other : Result Expression DepexFault) → Inside bytes one ⊎ Naming bytes one → Inside bytes other ⊎ Naming bytes other
+one_of_a_kind : (bytes : List ℕ) (one other : Result Expression DepexFault) → Inside bytes one ⊎ Naming bytes one
+    → Inside bytes other ⊎ Naming bytes other
     → one ≡ other
 one_of_a_kind bytes one other (inl a) (inl b) =
     let same = one_course 0 a.all b.all a.there b.there a.many b.many (length (bytes_of a.all)) (length (bytes_of b.all)) a.stop b.stop
@@ -271,12 +278,14 @@ one_of_a_kind bytes one other (inr a) (inr b) =
     let Q : List ℕ → Type 0 = λ behind. Names a.opcode behind one in
     named_once b.opcode b.behind one other (subst P opcodes (subst Q rests a.names)) b.names
 
-pub one_verdict : (bytes : List ℕ) (one other : Result Expression DepexFault) → IsVerdict bytes one → IsVerdict bytes other → one ≡ other
+pub one_verdict : (bytes : List ℕ) (one other : Result Expression DepexFault) → IsVerdict bytes one
+    → IsVerdict bytes other → one ≡ other
 one_verdict bytes one other a b = one_of_a_kind bytes one other (of_a_kind bytes one a) (of_a_kind bytes other b)
 
 -- ---- the laws
 
-pub never_both : (bytes : List ℕ) (expression : Expression) (fault : DepexFault) → IsExpression bytes expression → HasFault bytes fault → ⊥
+pub never_both : (bytes : List ℕ) (expression : Expression) (fault : DepexFault) → IsExpression bytes expression
+    → HasFault bytes fault → ⊥
 never_both bytes expression fault is has = let e : Ok expression ≡ Err fault = one_verdict bytes (Ok expression) (Err fault) is has in cc
 
 pub one_expression : (bytes : List ℕ) (one other : Expression) → IsExpression bytes one → IsExpression bytes other → one ≡ other
@@ -286,13 +295,15 @@ pub one_fault : (bytes : List ℕ) (one other : DepexFault) → HasFault bytes o
 one_fault bytes one other a b = let e : Err one ≡ Err other = one_verdict bytes (Err one) (Err other) a b in cc
 
 -- what a reader answers is the expression, or the fault, that the bytes come to
-pub told_found : (bytes : List ℕ) (result : Result Expression DepexEnd) → IfOk result (IsExpression bytes) → IfErr result (EndsBy (HasFault bytes))
+pub told_found : (bytes : List ℕ) (result : Result Expression DepexEnd) → IfOk result (IsExpression bytes)
+    → IfErr result (EndsBy (HasFault bytes))
     → (expression : Expression) → IsExpression bytes expression → (result ≡ Ok expression) ⊎ (result ≡ Err ends.NoMemory)
 told_found bytes (Ok other) ok err expression is = inl (ap (λ (e : Expression). Ok e) (one_expression bytes other expression ok is))
 told_found bytes (Err (ends.Fault fault)) ok err expression is = absurd (never_both bytes expression fault is err)
 told_found bytes (Err ends.NoMemory) ok err expression is = inr refl
 
-pub told_first : (bytes : List ℕ) (result : Result Expression DepexEnd) → IfOk result (IsExpression bytes) → IfErr result (EndsBy (HasFault bytes))
+pub told_first : (bytes : List ℕ) (result : Result Expression DepexEnd) → IfOk result (IsExpression bytes)
+    → IfErr result (EndsBy (HasFault bytes))
     → (fault : DepexFault) → HasFault bytes fault → (result ≡ Err (ends.Fault fault)) ⊎ (result ≡ Err ends.NoMemory)
 told_first bytes (Ok expression) ok err fault has = absurd (never_both bytes expression fault ok has)
 told_first bytes (Err (ends.Fault other)) ok err fault has = inl (ap (λ f. Err (ends.Fault f)) (one_fault bytes other fault err has))

@@ -1,5 +1,5 @@
 -- What is found at a place is one thing: a function of the bytes there tells it.
-use Rattle.std.proofs.Common.{◌≡◌, ◌≢◌, ℕ, zero, suc, ◌+◌, ◌<◌, ◌≤◌, Bool, true, false, if◌then◌else◌, ◌==◌, nat_lt, List, [], ◌∷◌, ◌++◌, length, take, drop, refl, sym, ap, ◌∙◌, subst, length-append, arith}
+use Rattle.std.proofs.Common.{◌≡◌, ℕ, zero, suc, ◌+◌, ◌<◌, ◌≤◌, if◌then◌else◌, ◌==◌, nat_lt, List, [], ◌∷◌, ◌++◌, length, take, refl, sym, ap, ◌∙◌, subst, length-append, arith}
 use Rattle.std.proofs.lemmas.List.{take_at}
 use Rattle.std.proofs.lemmas.Bool.Decides.{nat_tests}
 use Rattle.mm_base.specs.declared.guid.Guid.{Guid}
@@ -9,7 +9,7 @@ use Rattle.depex.specs.declared.item.Item.{Item}
 use Rattle.depex.specs.declared.item.Item.TheVariants as items
 use Rattle.depex.specs.declared.found.Found.{Found}
 use Rattle.depex.specs.declared.found.Found.TheVariants.{End, Next, Refused}
-use Rattle.depex.specs.Trees.{opcode_of, end_opcode, after_opcode, taken_by, guid_of, item_bytes}
+use Rattle.depex.specs.Trees.{opcode_of, taken_by, item_bytes}
 use Rattle.depex.specs.Expressions.{IsRefused, StopsAt}
 use Rattle.depex.specs.Finding.{IsWhole, MayStand, FindsItem, EndsAt}
 
@@ -58,7 +58,8 @@ leftover zero at place is two = absurd (omega arith)
 leftover (suc zero) at place is two = absurd (omega arith)
 leftover (suc (suc n)) at place is two = ap (λ p. Refused (Leftover p)) (sym is)
 
-unknown : (n at : ℕ) (behind : List ℕ) (opcode place : ℕ) → place ≡ at → 8 < opcode → judged n at behind opcode ≡ Refused (Unknown place)
+unknown : (n at : ℕ) (behind : List ℕ) (opcode place : ℕ) → place ≡ at → 8 < opcode
+    → judged n at behind opcode ≡ Refused (Unknown place)
 unknown n at behind zero place is above = absurd (omega arith)
 unknown n at behind (suc zero) place is above = absurd (omega arith)
 unknown n at behind (suc (suc zero)) place is above = absurd (omega arith)
@@ -70,7 +71,8 @@ unknown n at behind (suc (suc (suc (suc (suc (suc (suc zero))))))) place is abov
 unknown n at behind (suc (suc (suc (suc (suc (suc (suc (suc zero)))))))) place is above = absurd (omega arith)
 unknown n at behind (suc (suc (suc (suc (suc (suc (suc (suc (suc opcode))))))))) place is above = ap (λ p. Refused (Unknown p)) (sym is)
 
-not_first : (n at : ℕ) (behind : List ℕ) (opcode place : ℕ) → place ≡ at → opcode ≤ 1 → judged n at behind opcode ≡ Refused (BeforeNotFirst place)
+not_first : (n at : ℕ) (behind : List ℕ) (opcode place : ℕ) → place ≡ at → opcode ≤ 1
+    → judged n at behind opcode ≡ Refused (BeforeNotFirst place)
 not_first n at behind zero place is low = ap (λ p. Refused (BeforeNotFirst p)) (sym is)
 not_first n at behind (suc zero) place is low = ap (λ p. Refused (BeforeNotFirst p)) (sym is)
 not_first n at behind (suc (suc opcode)) place is low = absurd (omega arith)
@@ -87,7 +89,8 @@ full n at item place is most = grind (arith, nat_tests)
 full_push : (n at : ℕ) (behind : List ℕ) (place : ℕ) → place ≡ at → n ≡ 256 → pushed n at behind ≡ Refused (TooDeep place)
 full_push n at behind place is most = grind (arith, nat_tests)
 
-underflow : (n at : ℕ) (behind : List ℕ) (place : ℕ) (item : Item) → place ≡ at → n < taken_by item → judged n at behind (opcode_of item) ≡ Refused (Underflow place)
+underflow : (n at : ℕ) (behind : List ℕ) (place : ℕ) (item : Item) → place ≡ at → n < taken_by item
+    → judged n at behind (opcode_of item) ≡ Refused (Underflow place)
 underflow n at behind place (items.Push guid) is less = absurd (omega arith)
 underflow n at behind place items.True is less = absurd (omega arith)
 underflow n at behind place items.False is less = absurd (omega arith)
@@ -104,7 +107,8 @@ too_deep n at behind place items.Not is none most = absurd (omega arith)
 too_deep n at behind place items.And is none most = absurd (omega arith)
 too_deep n at behind place items.Or is none most = absurd (omega arith)
 
-refused_judged : (n at opcode : ℕ) (behind : List ℕ) (fault : DepexFault) → (at ≡ 0 → n ≡ 0) → IsRefused n at opcode behind fault
+refused_judged : (n at opcode : ℕ) (behind : List ℕ) (fault : DepexFault) → (at ≡ 0 → n ≡ 0)
+    → IsRefused n at opcode behind fault
     → judged n at behind opcode ≡ Refused fault
 refused_judged n at opcode behind Empty first refused =
     let P : ℕ → Type 0 = λ opcode. judged n at behind opcode ≡ Refused Empty in
@@ -125,7 +129,8 @@ refused_judged n at opcode behind (TooDeep place) first refused =
     let P : ℕ → Type 0 = λ opcode. judged n at behind opcode ≡ Refused (TooDeep place) in
     subst P (sym refused.2) (too_deep n at behind place refused.1 refused.0 refused.3 refused.4)
 
-pub stops_seen : (n at : ℕ) (there : List ℕ) (fault : DepexFault) → (at ≡ 0 → n ≡ 0) → StopsAt n at there fault → sight n at there ≡ Refused fault
+pub stops_seen : (n at : ℕ) (there : List ℕ) (fault : DepexFault) → (at ≡ 0 → n ≡ 0) → StopsAt n at there fault
+    → sight n at there ≡ Refused fault
 stops_seen n at [] fault first stops = ap (λ f. Refused f) (sym stops)
 stops_seen n at (opcode ∷ behind) fault first stops = refused_judged n at opcode behind fault first stops
 
@@ -142,14 +147,16 @@ enough n at item may = grind (arith, nat_tests)
 roomy : (n at : ℕ) (item : Item) → n < 256 → operand n at item ≡ Next item
 roomy n at item room = grind (arith, nat_tests)
 
-whole_push : (n at : ℕ) (guid : Guid) (behind : List ℕ) → n < 256 → length guid.0 ≡ 16 → pushed n at (guid.0 ++ behind) ≡ Next (items.Push guid)
+whole_push : (n at : ℕ) (guid : Guid) (behind : List ℕ) → n < 256 → length guid.0 ≡ 16
+    → pushed n at (guid.0 ++ behind) ≡ Next (items.Push guid)
 whole_push n at guid behind room whole =
     let long : length (guid.0 ++ behind) ≡ 16 + length behind = omega (arith, length-append guid.0 behind) in
     let front : take 16 (guid.0 ++ behind) ≡ guid.0 = take_at guid.0 behind 16 whole in
     let seen : pushed n at (guid.0 ++ behind) ≡ Next (items.Push (record { 0 = take 16 (guid.0 ++ behind) })) = grind (arith, nat_tests) in
     seen ∙ ap (λ (bytes : List ℕ). Next (items.Push (record { 0 = bytes }))) front
 
-item_seen : (n at : ℕ) (behind : List ℕ) (item : Item) → IsWhole item → MayStand n item → sight n at (item_bytes item ++ behind) ≡ Next item
+item_seen : (n at : ℕ) (behind : List ℕ) (item : Item) → IsWhole item → MayStand n item
+    → sight n at (item_bytes item ++ behind) ≡ Next item
 item_seen n at behind (items.Push guid) whole may = whole_push n at guid behind (may.room refl) whole
 item_seen n at behind items.True whole may = roomy n at items.True (may.room refl)
 item_seen n at behind items.False whole may = roomy n at items.False (may.room refl)

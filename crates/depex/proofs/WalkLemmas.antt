@@ -1,5 +1,5 @@
 -- Operands that stand one behind another, and one item more.
-use Rattle.std.proofs.Common.{◌≡◌, ℕ, suc, get_or, drop-cons, ◌+◌, ◌-◌, ◌<◌, ◌≤◌, max, List, [], ◌∷◌, ◌++◌, length, take, drop, refl, sym, ap, ◌∙◌, subst, append_assoc, length-append, arith}
+use Rattle.std.proofs.Common.{◌≡◌, ℕ, suc, get_or, drop-cons, ◌+◌, ◌-◌, ◌<◌, ◌≤◌, List, [], ◌∷◌, ◌++◌, length, take, drop, refl, sym, ap, ◌∙◌, subst, append_assoc, length-append, arith}
 use Rattle.std.proofs.lemmas.List.{append-nil, drop_at, take_all, take-append-drop}
 use Rattle.std.proofs.lemmas.List.Concat.{flat_map-append}
 use Rattle.depex.specs.declared.item.Item.{Item}
@@ -7,7 +7,7 @@ use Rattle.depex.specs.declared.item.Item.TheVariants as items
 use Rattle.depex.specs.Trees.{Tree, True, False, Push, Not, And, Or, postfix, need, taken_by, guid_of, item_bytes, bytes_of, before_opcode, after_opcode, end_opcode}
 use Rattle.mm_base.specs.declared.guid.Guid.{Guid}
 use Rattle.mm_base.specs.declared.expression.DepexFault.{DepexFault}
-use Rattle.depex.specs.Expressions.{Expression, Condition, Before, After, IsExpression, items_of, AreOperands, StandsBehind, StopsAt, HasFaultInside}
+use Rattle.depex.specs.Expressions.{Before, After, IsExpression, items_of, AreOperands, StandsBehind, StopsAt, HasFaultInside}
 use Rattle.depex.specs.Finding.{IsWhole, MayStand, FindsItem, EndsAt, IsCondition, IsName}
 
 -- the bytes of items and one more
@@ -21,7 +21,8 @@ record Regrown (operands : List Tree) (item : Item) : Type 0 where
   pub are : AreOperands to
   pub count : length to ≡ length operands - taken_by item + 1
 
-regrown : (operands : List Tree) (item : Item) → AreOperands operands → IsWhole item → MayStand (length operands) item → Regrown operands item
+regrown : (operands : List Tree) (item : Item) → AreOperands operands → IsWhole item → MayStand (length operands) item
+    → Regrown operands item
 regrown operands (items.Push guid) are whole may =
     record { to = Push guid ∷ operands; items = refl; are = (whole, omega (arith, may.room refl), are); count = omega arith }
 regrown operands items.True are whole may =
@@ -78,7 +79,8 @@ stand_more bytes operands at there item stands found =
     }
 
 -- what stands at a place is the rest of the bytes
-pub there_is : (bytes : List ℕ) (operands : List Tree) (at : ℕ) (there : List ℕ) → StandsBehind bytes operands at there → drop at bytes ≡ there
+pub there_is : (bytes : List ℕ) (operands : List Tree) (at : ℕ) (there : List ℕ) → StandsBehind bytes operands at there
+    → drop at bytes ≡ there
 there_is bytes operands at there stands =
     ap (λ (xs : List ℕ). drop at xs) stands.begins ∙ drop_at (bytes_of (items_of operands)) there at (sym stands.place)
 
@@ -136,13 +138,15 @@ walked_more bytes read count at item walked found =
       many = omega (arith, walked.many, grown.count);
     }
 
-pub walked_ends : (bytes : List ℕ) (read : List Item) (count at : ℕ) → Walked bytes read count at → EndsAt count (drop at bytes) → IsCondition bytes read
+pub walked_ends : (bytes : List ℕ) (read : List Item) (count at : ℕ) → Walked bytes read count at
+    → EndsAt count (drop at bytes) → IsCondition bytes read
 walked_ends bytes read count at walked ends =
     let P : ℕ → Type 0 = λ count. EndsAt count (drop at bytes) in
     let Q : List Item → Type 0 = λ read. IsCondition bytes read in
     subst Q (sym walked.items) (ends_condition bytes walked.operands at (drop at bytes) walked.stands (subst P walked.many ends))
 
-pub walked_stops : (bytes : List ℕ) (read : List Item) (count at : ℕ) (fault : DepexFault) → Walked bytes read count at → StopsAt count at (drop at bytes) fault
+pub walked_stops : (bytes : List ℕ) (read : List Item) (count at : ℕ) (fault : DepexFault) → Walked bytes read count at
+    → StopsAt count at (drop at bytes) fault
     → HasFaultInside bytes fault
 walked_stops bytes read count at fault walked stops =
     let P : ℕ → Type 0 = λ count. StopsAt count at (drop at bytes) fault in
@@ -151,7 +155,7 @@ walked_stops bytes read count at fault walked stops =
 -- where no operand stands is the first place
 pub none_first : (operands : List Tree) (at : ℕ) → length operands ≡ 0 → at ≡ length (bytes_of (items_of operands)) → at ≡ 0
 none_first [] at none place = place
-none_first (tree ∷ before) at none place = absurd (omega (arith, none))
+none_first (_ ∷ before) at none place = absurd (omega (arith, none))
 
 -- its numbers stay small
 pub record IsNear (bytes : List ℕ) (count at : ℕ) : Type 0 where
@@ -176,21 +180,24 @@ name_is behind name front long end =
     sym (take-append-drop 16 behind) ∙ (λ i. sym front i ++ rest i)
 
 -- bytes with a first opcode
-pub opcode_and_rest : (bytes : List ℕ) (opcode : ℕ) → 1 ≤ length bytes → get_or bytes 0 0 ≡ opcode → bytes ≡ opcode ∷ take (length bytes - 1) (drop 1 bytes)
+pub opcode_and_rest : (bytes : List ℕ) (opcode : ℕ) → 1 ≤ length bytes → get_or bytes 0 0 ≡ opcode
+    → bytes ≡ opcode ∷ take (length bytes - 1) (drop 1 bytes)
 opcode_and_rest [] opcode some is = absurd (omega arith)
 opcode_and_rest (first ∷ bytes) opcode some is =
     let all : take (suc (length bytes) - 1) bytes ≡ bytes = take_all (suc (length bytes) - 1) bytes (omega arith) in
     λ i. is i ∷ sym all i
 
 -- so BEFORE and AFTER are read
-pub before_is : (bytes behind : List ℕ) (guid : Guid) → bytes ≡ before_opcode ∷ behind → IsName behind guid → IsExpression bytes (Before guid)
+pub before_is : (bytes behind : List ℕ) (guid : Guid) → bytes ≡ before_opcode ∷ behind → IsName behind guid
+    → IsExpression bytes (Before guid)
 before_is bytes behind guid first name = record {
   behind = name.rest;
   begins = first ∙ ap (λ (xs : List ℕ). before_opcode ∷ xs) (name.begins ∙ sym (append_assoc guid.0 (end_opcode ∷ []) name.rest));
   sound = name.whole;
 }
 
-pub after_is : (bytes behind : List ℕ) (guid : Guid) → bytes ≡ after_opcode ∷ behind → IsName behind guid → IsExpression bytes (After guid)
+pub after_is : (bytes behind : List ℕ) (guid : Guid) → bytes ≡ after_opcode ∷ behind → IsName behind guid
+    → IsExpression bytes (After guid)
 after_is bytes behind guid first name = record {
   behind = name.rest;
   begins = first ∙ ap (λ (xs : List ℕ). after_opcode ∷ xs) (name.begins ∙ sym (append_assoc guid.0 (end_opcode ∷ []) name.rest));

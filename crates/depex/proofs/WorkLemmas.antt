@@ -1,15 +1,14 @@
 -- Items that are worked off one after another leave the truth of their tree.
-use Rattle.std.proofs.Common.{◌≡◌, ℕ, suc, ◌+◌, ◌-◌, ◌<◌, ◌≤◌, Bool, true, false, not, ◌&&◌, ◌||◌, List, [], ◌∷◌, ◌++◌, length, drop, get_or, refl, sym, ap, ◌∙◌, subst, append_assoc, arith}
-use Rattle.std.proofs.lemmas.List.{append-nil}
+use Rattle.std.proofs.Common.{◌≡◌, ℕ, ◌+◌, ◌-◌, Bool, true, false, not, ◌&&◌, ◌||◌, List, [], ◌∷◌, ◌++◌, length, refl, sym, ap, ◌∙◌, subst, arith}
 use Rattle.mm_base.specs.declared.guid.Guid.{Guid}
 use Rattle.depex.specs.declared.item.Item.{Item}
 use Rattle.depex.specs.declared.item.Item.TheVariants as items
 use Rattle.depex.specs.declared.expression.Kept.{Kept}
 use Rattle.depex.specs.declared.expression.Kept.TheVariants as kepts
-use Rattle.depex.specs.Trees.{Tree, True, False, Push, Not, And, Or, truth, postfix, need, taken_by, HasGuids}
-use Rattle.depex.specs.Expressions.{Expression, Condition, Before, After, IsSound}
+use Rattle.depex.specs.Trees.{Tree, True, False, Push, Not, And, Or, truth, postfix, taken_by}
+use Rattle.depex.specs.Expressions.{Condition, Before, After}
 use Rattle.depex.specs.Building.{tree_on-postfix}
-use Rattle.depex.specs.Keeping.{kept_of, expression_of, IsKept}
+use Rattle.depex.specs.Keeping.{expression_of, IsKept}
 use Rattle.depex.specs.Meaning.{holds_on}
 use Rattle.depex.specs.Finding.{MayStand}
 use Rattle.depex.specs.Working.{AreItems, Works}
@@ -20,7 +19,8 @@ abbrev pub Reaches : (Guid → Bool) → List Item → List Bool → List Bool �
 Reaches has [] old new = old ≡ new
 Reaches has (item ∷ all) old new = (mid : List Bool) × Works has item old mid × Reaches has all mid new
 
-reaches-append : (has : Guid → Bool) (some others : List Item) (old mid new : List Bool) → Reaches has some old mid → Reaches has others mid new
+reaches-append : (has : Guid → Bool) (some others : List Item) (old mid new : List Bool) → Reaches has some old mid
+    → Reaches has others mid new
     → Reaches has (some ++ others) old new
 reaches-append has [] others old mid new to on =
     let P : List Bool → Type 0 = λ values. Reaches has others values new in
@@ -49,7 +49,8 @@ tree_reaches has (Or left right) old =
     ((a || b) ∷ old, (a, b, old, refl, refl), refl))
 
 -- what an item makes is one thing
-one_work : (has : Guid → Bool) (item : Item) (old one other : List Bool) → Works has item old one → Works has item old other → one ≡ other
+one_work : (has : Guid → Bool) (item : Item) (old one other : List Bool) → Works has item old one
+    → Works has item old other → one ≡ other
 one_work has (items.Push guid) old one other a b = a ∙ sym b
 one_work has items.True old one other a b = a ∙ sym b
 one_work has items.False old one other a b = a ∙ sym b
@@ -72,7 +73,8 @@ one_work has items.Or old one other a b =
     a.4 ∙ (λ i. (left i || right i) ∷ below i) ∙ sym b.4
 
 -- and how many values it leaves
-works_many : (has : Guid → Bool) (item : Item) (old new : List Bool) → Works has item old new → length new ≡ length old - taken_by item + 1
+works_many : (has : Guid → Bool) (item : Item) (old new : List Bool) → Works has item old new
+    → length new ≡ length old - taken_by item + 1
 works_many has (items.Push guid) old new works = omega (arith, ap length works)
 works_many has items.True old new works = omega (arith, ap length works)
 works_many has items.False old new works = omega (arith, ap length works)
@@ -95,11 +97,13 @@ working_none has all are =
           subst Q (sym is) (tree_reaches has tree []);
     }
 
-pub working_may : (has : Guid → Bool) (all : List Item) (item : Item) (left : List Item) (values : List Bool) → Working has all (item ∷ left) values
+pub working_may : (has : Guid → Bool) (all : List Item) (item : Item) (left : List Item) (values : List Bool)
+    → Working has all (item ∷ left) values
     → MayStand (length values) item
 working_may has all item left values working = working.leads.0.may
 
-pub working_more : (has : Guid → Bool) (all : List Item) (item : Item) (left : List Item) (values new : List Bool) → Working has all (item ∷ left) values
+pub working_more : (has : Guid → Bool) (all : List Item) (item : Item) (left : List Item) (values new : List Bool)
+    → Working has all (item ∷ left) values
     → Works has item values new → Working has all left new
 working_more has all item left values new working works =
     let P : ℕ → Type 0 = λ n. Leads n left 1 in
@@ -114,7 +118,8 @@ working_more has all item left values new working works =
 pub working_one : (has : Guid → Bool) (all : List Item) (values : List Bool) → Working has all [] values → length values ≡ 1
 working_one has all values working = working.leads
 
-pub working_all : (has : Guid → Bool) (all : List Item) (values : List Bool) (value : Bool) (below : List Bool) → Working has all [] values
+pub working_all : (has : Guid → Bool) (all : List Item) (values : List Bool) (value : Bool) (below : List Bool)
+    → Working has all [] values
     → values ≡ value ∷ below → (tree : Tree) → all ≡ postfix tree → value ≡ truth has tree
 working_all has all values value below working is tree items =
     let e : value ∷ below ≡ truth has tree ∷ [] = sym is ∙ working.reaches tree items in

@@ -32,12 +32,14 @@ tree_on [] = False
 tree_on (tree ∷ below) = tree
 
 -- the items of a tree build it
-pub built-postfix : (tree : Tree) (all : List Item) (operands : List Tree) → built (postfix tree ++ all) operands ≡ built all (tree ∷ operands)
+pub built-postfix : (tree : Tree) (all : List Item) (operands : List Tree)
+    → built (postfix tree ++ all) operands ≡ built all (tree ∷ operands)
 built-postfix True all operands = refl
 built-postfix False all operands = refl
 built-postfix (Push guid) all operands = refl
 built-postfix (Not of) all operands =
-    ap (λ (xs : List Item). built xs operands) (append_assoc (postfix of) (items.Not ∷ []) all) ∙ built-postfix of (items.Not ∷ all) operands
+    ap (λ (xs : List Item). built xs operands) (append_assoc (postfix of) (items.Not ∷ []) all)
+    ∙ built-postfix of (items.Not ∷ all) operands
 built-postfix (And left right) all operands =
     ap (λ (xs : List Item). built xs operands) (append_assoc (postfix left) (postfix right ++ items.And ∷ []) all
     ∙ ap (λ (xs : List Item). postfix left ++ xs) (append_assoc (postfix right) (items.And ∷ []) all))
@@ -51,4 +53,5 @@ built-postfix (Or left right) all operands =
 
 pub tree_on-postfix : (tree : Tree) → tree_on (built (postfix tree) []) ≡ tree
 tree_on-postfix tree =
-    ap (λ (xs : List Item). tree_on (built xs [])) (sym (append-nil (postfix tree))) ∙ ap (λ (xs : List Tree). tree_on xs) (built-postfix tree [] [])
+    ap (λ (xs : List Item). tree_on (built xs [])) (sym (append-nil (postfix tree)))
+    ∙ ap (λ (xs : List Tree). tree_on xs) (built-postfix tree [] [])

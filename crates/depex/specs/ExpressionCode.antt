@@ -58,10 +58,12 @@ expression_in numbers = expression_with numbers.1 numbers.0
 
 pub expression_back : (expression : Expression) → expression_in (numbers_of expression) ≡ expression
 expression_back (Condition tree) =
-    ap (λ (all : List Item). Condition (tree_on (built all []))) (items_back (postfix tree)) ∙ ap (λ (t : Tree). Condition t) (tree_on-postfix tree)
+    ap (λ (all : List Item). Condition (tree_on (built all []))) (items_back (postfix tree))
+    ∙ ap (λ (t : Tree). Condition t) (tree_on-postfix tree)
 expression_back (Before guid) = refl
 expression_back (After guid) = refl
 
 abbrev pub expression_code : Coded Expression
 expression_code =
-    code_by (ℕ × List (ℕ × List ℕ)) (coded× coded_ℕ (coded_list (coded× coded_ℕ (coded_list coded_ℕ)))) numbers_of expression_in expression_back
+    code_by (ℕ × List (ℕ × List ℕ)) (coded× coded_ℕ (coded_list (coded× coded_ℕ (coded_list coded_ℕ))))
+    numbers_of expression_in expression_back

@@ -4,7 +4,6 @@ use Rattle.mm_base.specs.declared.guid.Guid.{Guid}
 use Rattle.mm_base.specs.declared.expression.DepexFault.{DepexFault}
 use Rattle.mm_base.specs.declared.expression.DepexFault.TheVariants.{Empty, NoEnd, Unknown, Underflow, Leftover, BeforeNotFirst, TooDeep}
 use Rattle.depex.specs.declared.item.Item.{Item}
-use Rattle.depex.specs.declared.item.Item.TheVariants.{Push}
 use Rattle.depex.specs.Trees.{Tree, postfix, need, opcode_of, before_opcode, after_opcode, end_opcode, taken_by, bytes_of, IsGuid, HasGuids}
 
 -- an expression: a condition, or BEFORE or AFTER with the name of another driver
@@ -79,7 +78,7 @@ pub record HasFaultInside (bytes : List ℕ) (fault : DepexFault) : Type 0 where
   pub stands : StandsBehind bytes operands at there
   pub stops : StopsAt (length operands) at there fault
 
--- Behind a BEFORE or AFTER, which stands first, so many bytes lack some of the GUID or END; or behind the GUID, at place 17, there is
+-- Behind a BEFORE or AFTER that stands first, these bytes lack some of the GUID, or END; or behind the GUID, at place 17, stands
 -- no opcode, or another one than END.
 abbrev pub IsRefusedName : List ℕ → DepexFault → Type 0
 IsRefusedName behind NoEnd = length behind ≤ 16

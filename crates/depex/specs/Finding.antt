@@ -8,7 +8,7 @@ use Rattle.depex.specs.declared.found.Found.{Found}
 use Rattle.depex.specs.declared.found.Found.TheVariants.{End, Next, Refused}
 use Rattle.depex.specs.declared.reading.DepexEnd.{DepexEnd}
 use Rattle.depex.specs.declared.reading.DepexEnd.TheVariants.{Fault, NoMemory}
-use Rattle.depex.specs.Trees.{Tree, postfix, opcode_of, after_opcode, end_opcode, taken_by, guid_of, item_bytes, IsGuid}
+use Rattle.depex.specs.Trees.{Tree, postfix, after_opcode, end_opcode, taken_by, item_bytes, IsGuid}
 use Rattle.depex.specs.declared.expression.Kept.{Kept}
 use Rattle.depex.specs.Expressions.{Expression, Condition, IsExpression, StopsAt}
 use Rattle.depex.specs.Keeping.{kept_of}

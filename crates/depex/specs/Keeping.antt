@@ -1,10 +1,8 @@
 -- What is kept of an expression: the items of a condition as they are spelled, and the expression that they stand for.
-use Rattle.std.specs.Prelude.{◌≡◌, List, [], ◌∷◌}
-use Rattle.depex.specs.declared.item.Item.{Item}
-use Rattle.depex.specs.declared.item.Item.TheVariants as items
+use Rattle.std.specs.Prelude.{◌≡◌, []}
 use Rattle.depex.specs.declared.expression.Kept.{Kept}
 use Rattle.depex.specs.declared.expression.Kept.TheVariants as kept
-use Rattle.depex.specs.Trees.{Tree, postfix}
+use Rattle.depex.specs.Trees.{postfix}
 use Rattle.depex.specs.Building.{built, tree_on}
 use Rattle.depex.specs.Expressions.{Expression, Condition, Before, After, IsSound}
 

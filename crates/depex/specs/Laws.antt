@@ -8,11 +8,16 @@ use Rattle.depex.specs.Expressions.{Expression, spelled, IsExpression, HasFault}
 -- bytes begin with an expression, or have a fault
 abbrev pub ExpressionOrFault : Type 0
 ExpressionOrFault =
-    (bytes : List ℕ) → ((expression : Expression) × IsExpression bytes expression) ⊎ ((fault : DepexFault) × HasFault bytes fault)
+    (bytes : List ℕ)
+    → ((expression : Expression) × IsExpression bytes expression) ⊎ ((fault : DepexFault) × HasFault bytes fault)
 
 -- and never both
 abbrev pub NeverBoth : Type 0
-NeverBoth = (bytes : List ℕ) (expression : Expression) (fault : DepexFault) → IsExpression bytes expression → HasFault bytes fault → ⊥
+NeverBoth =
+    (bytes : List ℕ) (expression : Expression) (fault : DepexFault)
+    → IsExpression bytes expression
+    → HasFault bytes fault
+    → ⊥
 
 -- they begin with one expression at most, and have one fault at most
 abbrev pub OneExpression : Type 0

@@ -15,5 +15,7 @@ Works has (items.Push guid) old new = new ≡ has guid ∷ old
 Works has items.True old new = new ≡ true ∷ old
 Works has items.False old new = new ≡ false ∷ old
 Works has items.Not old new = (of : Bool) × (below : List Bool) × (old ≡ of ∷ below) × (new ≡ not of ∷ below)
-Works has items.And old new = (left right : Bool) × (below : List Bool) × (old ≡ right ∷ left ∷ below) × (new ≡ (left && right) ∷ below)
-Works has items.Or old new = (left right : Bool) × (below : List Bool) × (old ≡ right ∷ left ∷ below) × (new ≡ (left || right) ∷ below)
+Works has items.And old new =
+    (left right : Bool) × (below : List Bool) × (old ≡ right ∷ left ∷ below) × (new ≡ (left && right) ∷ below)
+Works has items.Or old new =
+    (left right : Bool) × (below : List Bool) × (old ≡ right ∷ left ∷ below) × (new ≡ (left || right) ∷ below)

@@ -10,7 +10,7 @@ use mm_base::{DepexFault, guid_at};
 
 /// An item, where so many operands stand in front of it.
 fn placed(item: Item, at: u32, operands: usize) -> Found
-    requires { operands ≤ 256 }
+    requires { operands ≤ MOST_OPERANDS }
     ensures { (behind : List ℕ) → IsWhole item
         → Finds operands at (opcode_of item ∷ guid_of item ++ behind) result }
 {
@@ -25,8 +25,8 @@ fn placed(item: Item, at: u32, operands: usize) -> Found
 
 /// A PUSH with the bytes behind it: it finds room before its GUID is missed.
 fn pushed(behind: &[u8], at: u32, operands: usize) -> Found
-    requires { operands ≤ 256 }
-    ensures { Finds operands at (2 ∷ behind.now) result }
+    requires { operands ≤ MOST_OPERANDS }
+    ensures { Finds operands at (PUSH ∷ behind.now) result }
 {
     if operands == MOST_OPERANDS {
         return Found::Refused(DepexFault::TooDeep(at));
@@ -40,7 +40,7 @@ fn pushed(behind: &[u8], at: u32, operands: usize) -> Found
 /// An END, where so many operands stand in front of it.
 fn ended(at: u32, operands: usize) -> Found
     requires { operands ≡ 0 → at ≡ 0 }
-    ensures { (behind : List ℕ) → Finds operands at (8 ∷ behind) result }
+    ensures { (behind : List ℕ) → Finds operands at (END ∷ behind) result }
 {
     match operands {
         0 => Found::Refused(DepexFault::Empty),
@@ -51,8 +51,8 @@ fn ended(at: u32, operands: usize) -> Found
 
 /// An opcode with the bytes behind it, where so many operands stand in front of it.
 fn judge(opcode: u8, behind: &[u8], at: u32, operands: usize) -> Found
-    requires room { operands ≤ 256 }
-    requires first { at ≡ 0 → 1 < opcode }
+    requires room { operands ≤ MOST_OPERANDS }
+    requires first { at ≡ 0 → AFTER < opcode }
     requires none { operands ≡ 0 → at ≡ 0 }
     ensures { Finds operands at (opcode ∷ behind.now) result }
 {
@@ -73,7 +73,7 @@ fn judge(opcode: u8, behind: &[u8], at: u32, operands: usize) -> Found
 pub(crate) fn look(bytes: &[u8], at: usize, operands: usize) -> Found
     requires few { length bytes.now ≤ 16777216 }
     requires within { at ≤ length bytes.now }
-    requires room { operands ≤ 256 }
+    requires room { operands ≤ MOST_OPERANDS }
     requires first { names_driver bytes.now ≡ false }
     requires none { operands ≡ 0 → at ≡ 0 }
     ensures { Finds operands at (drop at bytes.now) result }

@@ -7,7 +7,7 @@ use std::marker::Model;
 /// Up to 256 truth values on top of one another, in no memory but its own.
 #[derive(Drop)]
 pub(crate) struct Operands {
-    values: [bool; 256],
+    values: [bool; MOST_OPERANDS],
     count: usize,
 }
 
@@ -35,7 +35,7 @@ impl Operands {
 
     /// Puts one on top.
     pub(crate) fn push(&mut self, value: bool)
-        requires { length self.old < 256 }
+        requires { length self.old < MOST_OPERANDS }
         ensures { self.new ≡ value ∷ self.old }
     {
         self.values[self.count] = value;
@@ -46,7 +46,7 @@ impl Operands {
     pub(crate) fn pop(&mut self) -> bool
         requires { 0 < length self.old }
         ensures value { self.old ≡ result ∷ self.new }
-        ensures room { length self.new < 256 }
+        ensures room { length self.new < MOST_OPERANDS }
     {
         self.count -= 1;
         self.values[self.count]

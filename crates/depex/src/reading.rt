@@ -13,6 +13,9 @@ use crate::opcode::{AFTER, BEFORE, END};
 use mm_base::{DepexFault, GUID_BYTES, Guid, List, NoMemory, guid_at};
 use std::alloc::Global;
 
+/// The place behind a BEFORE or AFTER that stands first, with its GUID.
+const BEHIND_NAME: u32 = 17;
+
 /// Why bytes were not read as an expression.
 #[derive(Clone, Copy, Debug, PartialEq, Eq)]
 pub enum DepexEnd {
@@ -75,9 +78,9 @@ fn read_name(behind: &[u8]) -> Result<Guid, DepexFault>
         return Ok(guid);
     }
     if END < opcode {
-        return Err(DepexFault::Unknown(17));
+        return Err(DepexFault::Unknown(BEHIND_NAME));
     }
-    Err(DepexFault::BeforeNotFirst(17))
+    Err(DepexFault::BeforeNotFirst(BEHIND_NAME))
 }
 
 /// What is kept of the expression that the bytes begin with.

@@ -1,6 +1,6 @@
-use Rattle.std.proofs.Common.{ℕ, ◌+◌, ◌-◌, List, ◌∷◌, [], ◌++◌, sym, subst, length}
+use Rattle.std.proofs.Common.{ℕ, ◌+◌, ◌-◌, List, ◌∷◌, [], ◌++◌, sym, subst}
 use Rattle.depex.specs.declared.item.Item.{Item}
-use Rattle.depex.specs.Trees.{taken_by, guid_of}
+use Rattle.depex.specs.Trees.{taken_by}
 use Rattle.depex.proofs.WalkLemmas.{Walked, walked_more, walked_near, walked_ends}
 use Rattle.depex.proofs.reading.read_items.Goals as goal
 

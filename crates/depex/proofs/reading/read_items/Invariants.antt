@@ -1,4 +1,4 @@
-use Rattle.std.proofs.Common.{◌≤◌, ◌-◌, length}
+use Rattle.std.proofs.Common.{◌-◌, length}
 use Rattle.depex.proofs.WalkLemmas.{Walked, IsNear}
 use Rattle.depex.proofs.reading.read_items.Given as goal
 

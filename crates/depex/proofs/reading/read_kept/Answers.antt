@@ -1,4 +1,4 @@
-use Rattle.std.proofs.Common.{◌≡◌, ◌≤◌, get_or, length, refl, arith}
+use Rattle.std.proofs.Common.{◌≡◌, get_or, refl, arith}
 use Rattle.std.proofs.lemmas.Bool.Decides.{nat_tests}
 use Rattle.depex.specs.Expressions.{Before, After}
 use Rattle.depex.proofs.WalkLemmas.{opcode_and_rest, before_is, after_is}

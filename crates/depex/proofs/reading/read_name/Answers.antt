@@ -1,6 +1,5 @@
-use Rattle.std.proofs.Common.{◌≡◌, get_or, length, take, drop, ap, ◌∙◌, refl}
+use Rattle.std.proofs.Common.{length, drop, ap, ◌∙◌, refl}
 use Rattle.std.proofs.lemmas.List.{length-take-le}
-use Rattle.depex.specs.Trees.{end_opcode}
 use Rattle.depex.proofs.WalkLemmas.{name_is}
 use Rattle.depex.proofs.reading.read_name.Goals as goal
 
