@@ -8,11 +8,11 @@ use Rattle.volume_reader.proofs.SectionLemmas.{Stands, Stop, ends_stop, refused_
 
 -- ---- one course
 
-record SameCourse (some others : List Section) (one other : ℕ) : Type 0 where
+pub record SameCourse (some others : List Section) (one other : ℕ) : Type 0 where
   pub sections : some ≡ others
   pub ends : one ≡ other
 
-one_course : (body : List ℕ) (begin at : ℕ) (some others : List Section) (one other : ℕ)
+pub one_course : (body : List ℕ) (begin at : ℕ) (some others : List Section) (one other : ℕ)
     → SectionsLead body begin at some one → Stop body one → SectionsLead body begin at others other → Stop body other → SameCourse some others one other
 one_course body begin at [] [] one other a stop b halt = record { sections = refl; ends = sym a ∙ b }
 one_course body begin at [] (y ∷ others) one other a stop b halt =

@@ -3,8 +3,9 @@ pub mod HeaderLemmas
 pub mod AreaLemmas
 pub mod WalkLemmas
 pub mod LawLemmas
-pub mod CutLemmas
+pub mod FrontLemmas
 pub mod SectionLemmas
 pub mod ContentsLemmas
 pub mod CourseLemmas
 pub mod FileLemmas
+pub mod SectionLawLemmas

@@ -11,7 +11,7 @@ use Rattle.volume_reader.specs.Sections.{has_section, section_at, section_behind
 -- ---- sections from one place are one course
 
 -- a section with one number is one
-same_at : (body : List ℕ) (begin at : ℕ) (some others : List Section) (one other index : ℕ) (s t : Section)
+pub same_at : (body : List ℕ) (begin at : ℕ) (some others : List Section) (one other index : ℕ) (s t : Section)
     → SectionsLead body begin at some one → SectionsLead body begin at others other → slice_get some index ≡ Some s → slice_get others index ≡ Some t → s ≡ t
 same_at body begin at [] others one other index s t a b is are = let e : None ≡ Some s = is in cc
 same_at body begin at (x ∷ some) [] one other index s t a b is are = let e : None ≡ Some t = are in cc
@@ -28,7 +28,7 @@ pub record Stands (body : List ℕ) (at : ℕ) : Type 0 where
   pub room : nat_le (at + 4) (length body) ≡ true
   pub section : has_section body at ≡ true
 
-stands_behind : (body : List ℕ) (begin at : ℕ) (more fewer : List Section) (one other : ℕ)
+pub stands_behind : (body : List ℕ) (begin at : ℕ) (more fewer : List Section) (one other : ℕ)
     → SectionsLead body begin at more one → SectionsLead body begin at fewer other → length fewer < length more → Stands body other
 stands_behind body begin at [] fewer one other a b h = absurd (omega arith)
 stands_behind body begin at (x ∷ more) [] one other a b h =

@@ -1,5 +1,5 @@
--- Laws of the volume grammar: bytes are one volume, or have one fault, and not both.
-use Rattle.std.specs.Prelude.{◌≡◌, ◌≤◌, ℕ, ◌+◌, ◌<◌, ◌⊎◌, List, length, take, All}
+-- Laws of the grammar of volumes: bytes are one volume, or have one fault, and never both; and a volume lies in its first bytes.
+use Rattle.std.specs.Prelude.{◌≡◌, ◌≤◌, ℕ, ◌+◌, ◌<◌, ◌⊎◌, List, ◌++◌, length, take, All}
 use Rattle.mm_base.specs.declared.volume.Volume.{Volume}
 use Rattle.volume_reader.specs.VolumeHeader.{volume_length}
 use Rattle.volume_reader.specs.VolumeGrammar.{IsVolume, HasFault}
@@ -30,6 +30,14 @@ SamePastEnd =
     → volume_length bytes ≤ cut
     → cut ≤ length bytes
     → IsVolume (take cut bytes) volume
+
+-- Neither does anything that is added behind it,
+abbrev pub SameWithMore : Type 0
+SameWithMore = (bytes more : List ℕ) (volume : Volume) → IsVolume bytes volume → IsVolume (bytes ++ more) volume
+
+-- or was cut off there.
+abbrev pub SameBeforeCut : Type 0
+SameBeforeCut = (bytes : List ℕ) (cut : ℕ) (volume : Volume) → IsVolume (take cut bytes) volume → IsVolume bytes volume
 
 -- A volume lies in its bytes.
 abbrev pub LiesInBytes : Type 0
