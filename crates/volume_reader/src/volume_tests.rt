@@ -1,7 +1,6 @@
 //! Volumes that are read and refused. What is expected was worked out from the rules of volumes, apart from this reader.
 use crate::{File, Volume, VolumeEnd, VolumeKind, read_volume};
 use std::alloc::{AllocError, Global};
-use std::test::Fail;
 
 /// The most bytes that the reader takes.
 const MOST_BYTES: usize = 16_777_216;
@@ -345,6 +344,20 @@ const PLACES: &[Case] = &[
             (175, b"\x01\x31\xaa\x0e\0\x18\0\0\xfc"),
         ],
         files: Ok(&[(128, 2, 30, 152, 6, true)]),
+    },
+    Case {
+        name: "a file behind a pad file",
+        length: 120,
+        base: EMPTY,
+        edits: &[
+            (32, b"\x78"),
+            (50, b"\xe1\xec"),
+            (60, b"\x78"),
+            (72, b"\xaa\xaa\xaa\xaa"),
+            (87, b"\x01\x4f\0\xf0\0\x18\0\0\xf8\xaa\xaa\xaa\xaa"),
+            (111, b"\x01\x31\xaa\x0e\0\x18\0\0\xf8"),
+        ],
+        files: Ok(&[(72, 240, 24, 96, 0, true), (96, 14, 24, 120, 0, true)]),
     },
     Case {
         name: "a header under construction is passed over, whatever its size",
