@@ -4,8 +4,9 @@ pub mod AreaLemmas
 pub mod WalkLemmas
 pub mod LawLemmas
 pub mod FrontLemmas
-pub mod SectionLemmas
-pub mod ContentsLemmas
-pub mod CourseLemmas
 pub mod FileLemmas
+pub mod SectionLemmas
+pub mod SectionWalkLemmas
+pub mod SectionNumberLemmas
 pub mod SectionLawLemmas
+pub mod ContentsLemmas

@@ -1,16 +1,13 @@
--- The laws of sections: either a list or a refusal, by numbers, and by a walk.
-use Rattle.std.proofs.Common.{◌≡◌, ◌⊎◌, inl, inr, ◌↔◌, ℕ, zero, suc, ◌+◌, ◌<◌, ◌≤◌, Bool, true, false, nat_le, List, [], ◌∷◌, length, get_or, Option, Some, None, Result, Ok, Err, refl, sym, ap, ◌∙◌, subst, arith}
-use Rattle.std.specs.List.{slice_get}
-use Rattle.std.proofs.lemmas.Option.{slice_get_within, slice_get-get_or}
-use Rattle.std.proofs.lemmas.Bool.{cases_lt}
+-- The laws of sections: a list or a refusal, and what a walk gives.
+use Rattle.std.proofs.Common.{◌≡◌, ◌⊎◌, inl, inr, ◌↔◌, ℕ, zero, suc, ◌+◌, ◌<◌, ◌≤◌, Bool, true, false, nat_le, List, [], ◌∷◌, length, Option, Some, None, Result, Ok, Err, refl, sym, ap, ◌∙◌, subst, arith}
 use Rattle.std.proofs.lemmas.Bool.Decides.{nat_tests}
 use Rattle.mm_base.specs.declared.volume.File.{File}
 use Rattle.mm_base.specs.declared.volume.Section.{Section}
 use Rattle.mm_base.specs.declared.volume.SectionFault.{SectionFault}
-use Rattle.volume_reader.specs.Sections.{body_of, has_section, section_at, section_behind, SectionsLead, AreSections, IsRefusedBehind, HasRefusal, HasSections, HasRefusedSection, Walk, walk_of, given_next, walked_on, HasSection, HasAtMost, HasSectionFault}
+use Rattle.volume_reader.specs.Sections.{body_of, has_section, section_at, section_behind, SectionsLead, AreSections, HasRefusal, HasSections, HasRefusedSection, Walk, walk_of, given_next, walked_on}
 use Rattle.volume_reader.specs.SectionLaws.{WalksOver}
-use Rattle.volume_reader.proofs.SectionLemmas.{Stop, ends_stop, refused_stop, same_at, stands_behind, Gives, GivesSection, GivesNone, GivesFault, gives}
-use Rattle.volume_reader.proofs.CourseLemmas.{one_course, one_list, section_moves, over_end, over_refused}
+use Rattle.volume_reader.proofs.SectionLemmas.{section_moves}
+use Rattle.volume_reader.proofs.SectionWalkLemmas.{Gives, GivesSection, GivesNone, GivesFault, gives, over_end, over_refused}
 
 -- ---- either
 
@@ -57,46 +54,6 @@ either body begin = by_halt (halted (length body) body begin 0 (omega arith))
 
     by_halt : Halted body begin 0 → ((sections : List Section) × AreSections body begin sections) ⊎ ((fault : SectionFault) × HasRefusal body begin fault)
     by_halt there = by_end there there.halts
-
--- ---- by numbers
-
-numbered : (body : List ℕ) (begin index to : ℕ) (sections : List Section) → SectionsLead body begin 0 sections to → Stop body to
-    → (section : Section) → HasSection body begin index section ↔ (slice_get sections index ≡ Some section)
-numbered body begin index to sections leads stop section =
-    (λ has. by_place has (cases_lt index (length sections)), λ there. record { sections = sections; to = to; reached = record { leads = leads }; there = there })
-  where
-    by_place : HasSection body begin index section → (index < length sections) ⊎ (length sections ≤ index) → slice_get sections index ≡ Some section
-    by_place has (inl within) =
-        let there = slice_get-get_or sections index section within in
-        there ∙ ap Some (same_at body begin 0 sections has.sections to has.to index (get_or sections index section) section leads has.reached.leads there has.there)
-    by_place has (inr past) =
-        let within = slice_get_within has.sections index section has.there in
-        absurd (stop.none (stands_behind body begin 0 has.sections sections has.to to has.reached.leads leads (omega arith)))
-
-pub numbers_list : (body : List ℕ) (begin index : ℕ) (sections : List Section) → AreSections body begin sections
-    → ((section : Section) → HasSection body begin index section ↔ (slice_get sections index ≡ Some section)) × (HasAtMost body begin index ↔ (length sections ≤ index))
-numbers_list body begin index sections are = (
-  numbered body begin index are.end sections are.reached.leads (ends_stop body begin sections are),
-  (
-    λ most. let same = ap (λ (all : List Section). length all) (one_list body begin most.sections sections most.are are) in omega (arith, most.few),
-    λ few. record { sections = sections; are = are; few = few },
-  ),
-)
-
-pub numbers_refusal : (body : List ℕ) (begin index at : ℕ) (sections : List Section) → IsRefusedBehind body begin sections at
-    → ((section : Section) → HasSection body begin index section ↔ (slice_get sections index ≡ Some section))
-    × ((fault : SectionFault) → HasSectionFault body begin index fault ↔ ((length sections ≤ index) × (fault.at ≡ begin + at)))
-numbers_refusal body begin index at sections refused = (
-  numbered body begin index at sections refused.reached.leads (refused_stop body begin sections at refused),
-  λ fault. (
-    λ has.
-        let same = one_course body begin 0 has.sections sections has.at at has.refused.reached.leads (refused_stop body begin has.sections has.at has.refused)
-        refused.reached.leads (refused_stop body begin sections at refused) in
-        let lengths = ap (λ (all : List Section). length all) same.sections in
-        (omega (arith, has.few), has.place ∙ ap (λ at. begin + at) same.ends),
-    λ past. record { sections = sections; at = at; refused = refused; place = past.1; few = past.0 },
-  ),
-)
 
 -- ---- by a walk
 
@@ -158,7 +115,8 @@ pub walk_meets : (bytes : List ℕ) (file : File) (fault : SectionFault)
 walk_meets bytes file fault = (
   λ (sections, walks).
       let there = comes_to (body_of bytes file) file.body_at 0 sections (Err fault) walks in
-      over_refused (record { body = body_of bytes file; begin = file.body_at; place = there.end }) sections fault (record { leads = there.leads }) there.gives,
+      let r = over_refused (record { body = body_of bytes file; begin = file.body_at; place = there.end }) sections fault (record { leads = there.leads }) there.gives in
+      record { sections = sections; at = there.end; refused = r.0; place = r.1 },
   λ has.
       let room = has.refused.there in
       let bad = has.refused.bad in

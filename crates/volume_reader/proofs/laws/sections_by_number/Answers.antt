@@ -1,4 +1,4 @@
-use Rattle.volume_reader.proofs.SectionLawLemmas.{numbers_list, numbers_refusal}
+use Rattle.volume_reader.proofs.SectionNumberLemmas.{numbers_list, numbers_refusal}
 use Rattle.volume_reader.proofs.laws.sections_by_number.Goals as goal
 
 pub returns : goal.returns

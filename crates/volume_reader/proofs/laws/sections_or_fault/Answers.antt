@@ -1,4 +1,4 @@
-use Rattle.volume_reader.proofs.CourseLemmas.{one_list, list_or_refusal, one_refusal}
+use Rattle.volume_reader.proofs.SectionLemmas.{one_list, list_or_refusal, one_refusal}
 use Rattle.volume_reader.proofs.SectionLawLemmas.{either}
 use Rattle.volume_reader.proofs.laws.sections_or_fault.Goals as goal
 
