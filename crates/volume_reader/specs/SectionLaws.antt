@@ -20,10 +20,11 @@ NeverListAndRefusal =
     → HasRefusal body begin fault
     → ⊥
 
--- they are one list at most, and one fault at most is met
+-- they are one list at most,
 abbrev pub OneList : Type 0
 OneList = (body : List ℕ) (begin : ℕ) (one other : List Section) → AreSections body begin one → AreSections body begin other → one ≡ other
 
+-- or one fault at most is met
 abbrev pub OneRefusal : Type 0
 OneRefusal = (body : List ℕ) (begin : ℕ) (one other : SectionFault) → HasRefusal body begin one → HasRefusal body begin other → one ≡ other
 
