@@ -9,7 +9,8 @@ use Rattle.mm_base.specs.declared.volume.SectionFault.{SectionFault}
 use Rattle.volume_reader.specs.declared.section_contents.Contents.{Contents}
 use Rattle.volume_reader.specs.Sections.{body_of, AreSections, HasSections, HasRefusedSection, Walk, given_next, walked_on}
 use Rattle.volume_reader.specs.Contents.{contents_of, HasContents}
-use Rattle.volume_reader.proofs.CourseLemmas.{Over, over_more, over_end, one_list, list_or_refusal, one_refusal}
+use Rattle.volume_reader.proofs.SectionLemmas.{one_list, list_or_refusal, one_refusal}
+use Rattle.volume_reader.proofs.SectionWalkLemmas.{Over, over_more, over_end}
 
 -- ---- one section more
 

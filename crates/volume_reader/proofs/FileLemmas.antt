@@ -37,3 +37,8 @@ files_lie bytes volume is =
     let P : List File → Type 0 = λ files. All (λ (file : File). file.body_at + file.body ≤ length (area_of bytes).bytes) files in
     let Q : ℕ → Type 0 = λ end. All (λ (file : File). file.body_at + file.body ≤ end) volume.files in
     subst Q long (subst P (sym is.files) there)
+
+-- so they lie in the bytes
+pub files_in_bytes : (bytes : List ℕ) (volume : Volume) → IsVolume bytes volume
+    → All (λ (file : File). file.body_at + file.body ≤ length bytes) volume.files
+files_in_bytes bytes volume is = λ k file within. let lies = files_lie bytes volume is k file within in let most = volume_lies bytes volume is in omega arith

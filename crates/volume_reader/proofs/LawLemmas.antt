@@ -38,16 +38,33 @@ bad_header_or_good area at kind good (inr (is, inr bad)) =
     let e : true ≡ false = cc in
     cc
 
+-- the span that a state tells, if it tells one
+abbrev span_of : FileState → Option Span
+span_of Free = None
+span_of HeaderConstruction = Some HeaderAlone
+span_of HeaderValid = Some Gone
+span_of DataValid = Some Counts
+span_of MarkedForUpdate = Some Counts
+span_of Deleted = Some Gone
+span_of HeaderInvalid = Some HeaderAlone
+
+span_told : (area : Area) (at : ℕ) (span : Span) → StandsAt area at span → span_of (state_at area at) ≡ Some span
+span_told area at HeaderAlone (room, inl state) = ap span_of state
+span_told area at HeaderAlone (room, inr state) = ap span_of state
+span_told area at Gone (header, inl state) = ap span_of state
+span_told area at Gone (header, inr state) = ap span_of state
+span_told area at Counts (header, inl state) = ap span_of state
+span_told area at Counts (header, inr state) = ap span_of state
+
+-- there is room for a span's header
+room_for : (area : Area) (at : ℕ) (span : Span) → StandsAt area at span → has_room area at 24 ≡ true
+room_for area at HeaderAlone (room, state) = room
+room_for area at Gone (header, state) = header.room
+room_for area at Counts (header, state) = header.room
+
 ends_or_stands : (area : Area) (at : ℕ) (span : Span) → EndsAt area at → StandsAt area at span → ⊥
-ends_or_stands area at HeaderAlone (inl none) (room, state) = let e : true ≡ false = cc in cc
-ends_or_stands area at HeaderAlone (inr none) (room, inl state) = let e : Free ≡ HeaderConstruction = cc in cc
-ends_or_stands area at HeaderAlone (inr none) (room, inr state) = let e : Free ≡ HeaderInvalid = cc in cc
-ends_or_stands area at Gone (inl none) (header, state) = let room = header.room in let e : true ≡ false = cc in cc
-ends_or_stands area at Gone (inr none) (header, inl state) = let e : Free ≡ HeaderValid = cc in cc
-ends_or_stands area at Gone (inr none) (header, inr state) = let e : Free ≡ Deleted = cc in cc
-ends_or_stands area at Counts (inl none) (header, state) = let room = header.room in let e : true ≡ false = cc in cc
-ends_or_stands area at Counts (inr none) (header, inl state) = let e : Free ≡ DataValid = cc in cc
-ends_or_stands area at Counts (inr none) (header, inr state) = let e : Free ≡ MarkedForUpdate = cc in cc
+ends_or_stands area at span (inl none) stands = let e : false ≡ true = sym none ∙ room_for area at span stands in cc
+ends_or_stands area at span (inr free) stands = let e : None ≡ Some span = sym (ap span_of free) ∙ span_told area at span stands in cc
 
 refused_or_stands : (area : Area) (at : ℕ) (kind : VolumeKind) (span : Span) → IsRefusedAt area at kind → StandsAt area at span → ⊥
 refused_or_stands area at kind HeaderAlone (written, bad) (room, inl state) = written.not_constructed state
@@ -59,35 +76,9 @@ ends_or_refused : (area : Area) (at : ℕ) (kind : VolumeKind) → EndsAt area a
 ends_or_refused area at kind (inl none) (written, bad) = let room = written.room in let e : true ≡ false = cc in cc
 ends_or_refused area at kind (inr none) (written, bad) = written.written none
 
--- the span that stands at a place with this state
+-- one span stands at a place
 one_span : (area : Area) (at : ℕ) (one other : Span) → StandsAt area at one → StandsAt area at other → one ≡ other
-one_span area at HeaderAlone HeaderAlone a b = refl
-one_span area at Gone Gone a b = refl
-one_span area at Counts Counts a b = refl
-one_span area at HeaderAlone Gone (room, inl a) (header, inl b) = let e : HeaderConstruction ≡ HeaderValid = cc in cc
-one_span area at HeaderAlone Gone (room, inl a) (header, inr b) = let e : HeaderConstruction ≡ Deleted = cc in cc
-one_span area at HeaderAlone Gone (room, inr a) (header, inl b) = let e : HeaderInvalid ≡ HeaderValid = cc in cc
-one_span area at HeaderAlone Gone (room, inr a) (header, inr b) = let e : HeaderInvalid ≡ Deleted = cc in cc
-one_span area at HeaderAlone Counts (room, inl a) (header, inl b) = let e : HeaderConstruction ≡ DataValid = cc in cc
-one_span area at HeaderAlone Counts (room, inl a) (header, inr b) = let e : HeaderConstruction ≡ MarkedForUpdate = cc in cc
-one_span area at HeaderAlone Counts (room, inr a) (header, inl b) = let e : HeaderInvalid ≡ DataValid = cc in cc
-one_span area at HeaderAlone Counts (room, inr a) (header, inr b) = let e : HeaderInvalid ≡ MarkedForUpdate = cc in cc
-one_span area at Gone HeaderAlone (header, inl a) (room, inl b) = let e : HeaderValid ≡ HeaderConstruction = cc in cc
-one_span area at Gone HeaderAlone (header, inl a) (room, inr b) = let e : HeaderValid ≡ HeaderInvalid = cc in cc
-one_span area at Gone HeaderAlone (header, inr a) (room, inl b) = let e : Deleted ≡ HeaderConstruction = cc in cc
-one_span area at Gone HeaderAlone (header, inr a) (room, inr b) = let e : Deleted ≡ HeaderInvalid = cc in cc
-one_span area at Gone Counts (header, inl a) (more, inl b) = let e : HeaderValid ≡ DataValid = cc in cc
-one_span area at Gone Counts (header, inl a) (more, inr b) = let e : HeaderValid ≡ MarkedForUpdate = cc in cc
-one_span area at Gone Counts (header, inr a) (more, inl b) = let e : Deleted ≡ DataValid = cc in cc
-one_span area at Gone Counts (header, inr a) (more, inr b) = let e : Deleted ≡ MarkedForUpdate = cc in cc
-one_span area at Counts HeaderAlone (header, inl a) (room, inl b) = let e : DataValid ≡ HeaderConstruction = cc in cc
-one_span area at Counts HeaderAlone (header, inl a) (room, inr b) = let e : DataValid ≡ HeaderInvalid = cc in cc
-one_span area at Counts HeaderAlone (header, inr a) (room, inl b) = let e : MarkedForUpdate ≡ HeaderConstruction = cc in cc
-one_span area at Counts HeaderAlone (header, inr a) (room, inr b) = let e : MarkedForUpdate ≡ HeaderInvalid = cc in cc
-one_span area at Counts Gone (header, inl a) (more, inl b) = let e : DataValid ≡ HeaderValid = cc in cc
-one_span area at Counts Gone (header, inl a) (more, inr b) = let e : DataValid ≡ Deleted = cc in cc
-one_span area at Counts Gone (header, inr a) (more, inl b) = let e : MarkedForUpdate ≡ HeaderValid = cc in cc
-one_span area at Counts Gone (header, inr a) (more, inr b) = let e : MarkedForUpdate ≡ Deleted = cc in cc
+one_span area at one other a b = let e : Some one ≡ Some other = sym (span_told area at one a) ∙ span_told area at other b in cc
 
 -- what a place is refused for
 one_kind : (area : Area) (at : ℕ) (one other : VolumeKind) → IsBadAt area at one → IsBadAt area at other → one ≡ other

@@ -3,8 +3,10 @@ pub mod HeaderLemmas
 pub mod AreaLemmas
 pub mod WalkLemmas
 pub mod LawLemmas
-pub mod CutLemmas
-pub mod SectionLemmas
-pub mod ContentsLemmas
-pub mod CourseLemmas
+pub mod FrontLemmas
 pub mod FileLemmas
+pub mod SectionLemmas
+pub mod SectionWalkLemmas
+pub mod SectionNumberLemmas
+pub mod SectionLawLemmas
+pub mod ContentsLemmas

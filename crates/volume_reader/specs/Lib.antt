@@ -1,6 +1,7 @@
 pub mod Contents
 pub mod FileHeader
 pub mod Finding
+pub mod SectionLaws
 pub mod Sections
 pub mod Sums
 pub mod VolumeGrammar

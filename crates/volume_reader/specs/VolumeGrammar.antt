@@ -14,18 +14,18 @@ use Rattle.volume_reader.specs.declared.reading.VolumeFault.{VolumeFault}
 abbrev pub area_of : List ℕ → Area
 area_of bytes = record { bytes = take (volume_length bytes) bytes; ffs3 = is_ffs3 bytes; erase_polarity = erase_polarity bytes }
 
--- Where files end: fewer bytes than a header are left, or nothing was written there.
+-- Where files end: fewer bytes than a header are left, or no state bit is set.
 abbrev pub EndsAt : Area → ℕ → Type 0
 EndsAt area at = (has_room area at 24 ≡ false) ⊎ (state_at area at ≡ Free)
 
--- what spans a part of a volume: a header alone, of which nothing more is read; a file that is gone, or not yet there; or a file
--- that counts
+-- what spans a part of a volume: a header alone, which is under construction or invalid, and of which nothing more is read; a file
+-- that is gone, or whose data isn't there yet; or a file that counts, whose data is valid
 pub data Span : Type 0 where
   HeaderAlone : Span
   Gone : Span
   Counts : Span
 
--- a header at this place is as its sum and its size ask for
+-- A header stands at this place, and its sum and its size are as they have to be.
 pub record HasHeader (area : Area) (at : ℕ) : Type 0 where
   pub room : has_room area at 24 ≡ true
   pub large : is_large area at ≡ true → has_room area at 32 ≡ true
@@ -74,29 +74,32 @@ pub record IsVolume (bytes : List ℕ) (volume : Volume) : Type 0 where
   pub ends : EndsAt (area_of bytes) end
   pub files : volume.files ≡ files_in (area_of bytes) (first_place bytes) spans
 
--- There is a header at this place that is not one alone, and it is refused: for its sum; or for its size, which goes before the
--- sum where a large header has no room, and behind it else.
+-- A header stands at this place of which more is read: neither did files end here, nor is it one alone.
 pub record IsWritten (area : Area) (at : ℕ) : Type 0 where
   pub room : has_room area at 24 ≡ true
   pub written : state_at area at ≡ Free → ⊥
   pub not_constructed : state_at area at ≡ HeaderConstruction → ⊥
   pub not_invalid : state_at area at ≡ HeaderInvalid → ⊥
 
+-- It has room, and doesn't sum up to 0.
 pub record HasBadSum (area : Area) (at : ℕ) : Type 0 where
   pub large : is_large area at ≡ true → has_room area at 32 ≡ true
   pub sum : header_sum_is_zero area at ≡ false
 
+-- It sums up to 0, and its size doesn't hold it, leads past the end, or is said to be large in FFS2.
 pub record HasBadSize (area : Area) (at : ℕ) : Type 0 where
   pub large : is_large area at ≡ true → has_room area at 32 ≡ true
   pub summed : header_sum_is_zero area at ≡ true
   pub size : (size_fits area at && not (says_large area at && not area.ffs3)) ≡ false
 
--- A header at this place is refused for this, whatever its state.
+-- A header at this place is bad for this, whatever its state: for its sum; or for its size, which goes before the sum where a large
+-- header has no room, and behind it else.
 abbrev pub IsBadAt : Area → ℕ → VolumeKind → Type 0
 IsBadAt area at kind =
     ((kind ≡ FileSum) × HasBadSum area at)
     ⊎ ((kind ≡ FileSize) × (HasBadSize area at ⊎ ((is_large area at ≡ true) × (has_room area at 32 ≡ false))))
 
+-- What stands at this place is refused for this.
 abbrev pub IsRefusedAt : Area → ℕ → VolumeKind → Type 0
 IsRefusedAt area at kind = IsWritten area at × IsBadAt area at kind
 

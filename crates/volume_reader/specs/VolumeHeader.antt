@@ -4,9 +4,9 @@ use Rattle.std.specs.Prelude.{ℕ, ◌+◌, ◌*◌, ◌/◌, ◌%◌, Bool, if�
 use Rattle.std.specs.Str.{bytes_eq}
 use Rattle.mm_base.specs.Checks.{Check, first_failing as first_failing_of}
 use Rattle.mm_base.specs.Numbers.{number_at, has_bit}
-use Rattle.volume_reader.specs.Sums.{sum_in_16_bits}
 use Rattle.mm_base.specs.declared.volume.VolumeKind.{VolumeKind}
 use Rattle.mm_base.specs.declared.volume.VolumeKind.TheVariants.{Short, Signature, HeaderLength, HeaderSum, Revision, FileSystem, Length, ExtHeader}
+use Rattle.volume_reader.specs.Sums.{sum_in_16_bits}
 
 -- FileSystemGuid: the file system, as its GUID is stored
 abbrev pub file_system : List ℕ → List ℕ

@@ -4,6 +4,8 @@
 mod area;
 mod bytes;
 mod contents_of_file;
+#[cfg(test)]
+mod contents_tests;
 mod file_state;
 mod header;
 pub mod laws;

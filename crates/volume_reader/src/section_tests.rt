@@ -1,7 +1,6 @@
 //! Sections of files. What is expected was worked out from the rules of sections, apart from this reader.
 use crate::{File, Sections, sections};
 use mm_base::Guid;
-use std::test::Fail;
 
 /// The most bytes that the reader takes.
 const MOST_BYTES: usize = 16_777_216;

@@ -1,7 +1,7 @@
 use Rattle.std.proofs.Common.{◌≡◌, Ok, Some, None, IfOk, IfErr, sym, ap, ◌∙◌, rules}
 use Rattle.volume_reader.specs.Sections.{Walk, given_next, HasRefusedSection}
 use Rattle.volume_reader.specs.Contents.{HasContents}
-use Rattle.volume_reader.proofs.SectionLemmas.{same_body, same_begin}
+use Rattle.volume_reader.proofs.SectionWalkLemmas.{same_body, same_begin}
 use Rattle.volume_reader.proofs.ContentsLemmas.{taken_more, taken_end, told_found, told_first}
 use Rattle.volume_reader.proofs.contents_of_file.contents.Goals as goal
 

@@ -3,7 +3,7 @@ use Rattle.volume_reader.proofs.laws.volume_or_fault.Goals as goal
 
 pub returns : goal.returns
 returns c = record {
-  either = λ bytes small. either bytes;
+  either = either;
   never_both = never_both;
   one_volume = one_volume;
   one_fault = one_fault;

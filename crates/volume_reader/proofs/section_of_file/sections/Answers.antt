@@ -1,6 +1,7 @@
 use Rattle.std.proofs.Common.{◌≡◌, ◌+◌, None, Ok, Err, sym, ap, ◌∙◌, subst, arith, rules}
 use Rattle.volume_reader.specs.Sections.{Walk, body_of, given_next}
-use Rattle.volume_reader.proofs.SectionLemmas.{Skipped, skipped_next, same_body, same_begin, answered_end, answered_none, answered_fault, some_exactly, none_exactly, fault_exactly}
+use Rattle.volume_reader.proofs.SectionWalkLemmas.{same_body, same_begin}
+use Rattle.volume_reader.proofs.SectionNumberLemmas.{Skipped, skipped_next, answered_end, answered_none, answered_fault, some_exactly, none_exactly, fault_exactly}
 use Rattle.volume_reader.proofs.section_of_file.sections.Goals as goal
 
 pub returns-in_err-next_section : goal.returns-in_err-next_section

@@ -1,6 +1,6 @@
 use Rattle.std.proofs.Common.{◌≡◌, ◌≤◌, ◌-◌}
 use Rattle.volume_reader.specs.Sections.{body_of}
-use Rattle.volume_reader.proofs.SectionLemmas.{Skipped}
+use Rattle.volume_reader.proofs.SectionNumberLemmas.{Skipped}
 use Rattle.volume_reader.proofs.section_of_file.sections.Given as goal
 
 abbrev pub invariant-loop-before : goal.invariant-loop-before
