@@ -6,8 +6,10 @@ use Rattle.mm_base.specs.declared.image.Image.{Image}
 use Rattle.mm_base.specs.declared.image.PeFault.{PeFault}
 use Rattle.mm_base.specs.declared.image.PeKind.{PeKind}
 use Rattle.mm_base.specs.declared.image.PeKind.TheVariants.{Reloc}
-use Rattle.pe_loader.specs.Headers.{header_checks, optional_at, part_count, relocs_of, FailsFirst}
-use Rattle.pe_loader.specs.Sections.{section_checks, entry_check, checks}
+use Rattle.pe_loader.specs.Headers.{header_checks, optional_at, part_count, headers_size, image_size, relocs_of, FailsFirst}
+use Rattle.mm_base.specs.Range.{overlaps, Has}
+use Rattle.mm_base.proofs.RangeLemmas.{overlap_is_a_unit}
+use Rattle.pe_loader.specs.Sections.{part_at, range_of, section_checks, entry_check, checks}
 use Rattle.pe_loader.specs.Fixups.{Block, block_at, is_block, block_passes, IsBlockAt, Leads, fixups_in, directory_end, directory_fits, AreFixups, LeadsToBad}
 use Rattle.pe_loader.specs.Images.{image_of, IsImage, IsImageOf, AreRead, AreRefused, HasBadRelocations, HasFault}
 use Rattle.pe_loader.specs.Layout.{IsLaidOut}
@@ -236,3 +238,32 @@ either bytes = by_checks (first_failing (checks bytes)) refl
 pub parts_of : (bytes : List ℕ) (image : Image) → image ≡ image_of bytes → image.parts ≡ part_count bytes
 unfolding image_of
 parts_of bytes image is = ap (λ (i : Image). i.parts) is
+
+pub size_of : (bytes : List ℕ) (image : Image) → image ≡ image_of bytes → image.size ≡ image_size bytes
+unfolding image_of
+size_of bytes image is = ap (λ (i : Image). i.size) is
+
+pub headers_of : (bytes : List ℕ) (image : Image) → image ≡ image_of bytes → image.headers ≡ headers_size bytes
+unfolding image_of
+headers_of bytes image is = ap (λ (i : Image). i.headers) is
+
+-- ---- the sections of an image
+
+pub sections_lie_within : (bytes : List ℕ) (image : Image) (fixups : List Fixup) (k : ℕ) → IsImage bytes image fixups → k < image.parts
+    → (image.headers ≤ (part_at bytes k).at) × ((part_at bytes k).at + (part_at bytes k).length ≤ image.size)
+sections_lie_within bytes image fixups k is h =
+    let laid = laid_out_of bytes is.passes in
+    let parts = parts_of bytes image is.says in
+    let lies = laid.each k (omega arith) in
+    (omega (arith, headers_of bytes image is.says, lies.from), omega (arith, size_of bytes image is.says, lies.to))
+
+pub sections_lie_apart : (bytes : List ℕ) (image : Image) (fixups : List Fixup) (j k place : ℕ) → IsImage bytes image fixups → j < k → k < image.parts
+    → Has (range_of (part_at bytes j)) place → Has (range_of (part_at bytes k)) place → ⊥
+sections_lie_apart bytes image fixups j k place is earlier h one other =
+    let laid = laid_out_of bytes is.passes in
+    let parts = parts_of bytes image is.says in
+    let apart = laid.apart j k earlier (omega arith) in
+    let both : overlaps (range_of (part_at bytes j)) (range_of (part_at bytes k)) ≡ true =
+    (overlap_is_a_unit (range_of (part_at bytes j)) (range_of (part_at bytes k))).1 (place, (one, other)) in
+    let wrong : true ≡ false = sym both ∙ apart in
+    cc

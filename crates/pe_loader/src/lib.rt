@@ -6,9 +6,13 @@ mod cursor;
 mod fixup;
 mod header;
 mod inspecting;
+pub mod laws;
 mod numbers;
+mod placing;
 mod relocations;
 mod sections;
+mod writing;
 
 pub use inspecting::{inspect, part};
 pub use mm_base::{Image, Part, PeFault, PeKind};
+pub use placing::place;
