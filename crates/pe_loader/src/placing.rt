@@ -12,8 +12,8 @@ ghost use Rattle.pe_loader.specs.declared.fixup.Fixup.{Fixup as FixupValue};
 
 use crate::cursor::Cursor;
 use crate::fixup::Fixup;
-use crate::header::{headers_size, part_count, relocs};
-use crate::relocations::head_at;
+use crate::header::{headers_size, part_count};
+use crate::relocations::{Bounds, head_at};
 use crate::sections::part_at;
 use crate::writing::put;
 use crate::{Image, Part};
@@ -89,8 +89,9 @@ fn apply_all(bytes: &[u8], difference: u64, out: &mut [u8])
     ensures { (fixups : List FixupValue) → AreFixups bytes.now fixups → out.new ≡ fold (fixed difference) out.old fixups }
 {
     let mut cursor = Cursor::new(bytes);
-    let mut at = relocs(bytes).base as usize;
-    while let Some(head) = head_at(bytes, &mut cursor, at) {
+    let bounds = Bounds::of(bytes);
+    let mut at = bounds.directory.base as usize;
+    while let Some(head) = head_at(bytes, &mut cursor, bounds.end, at) {
         let count = (head.size as usize - 8) / 2;
         apply_entries(
             bytes,

@@ -13,7 +13,7 @@ use Rattle.pe_loader.proofs.placing.apply_all.Goals as goal
 
 pub loop-head-init : goal.loop-head-init
 loop-head-init c =
-    let base = ap (λ (range : Range). range.base) c.relocs-at.ensures.directory in
+    let base = ap (λ (range : Range). range.base) c.of-bounds.ensures.directory in
     record {
       fits = c.requires.read.1.fits;
       near = omega arith;
