@@ -6,7 +6,7 @@ use Rattle.mm_base.specs.declared.image.Image.{Image}
 use Rattle.mm_base.specs.declared.image.PeFault.{PeFault}
 use Rattle.mm_base.specs.declared.image.PeKind.{PeKind}
 use Rattle.mm_base.specs.declared.image.PeKind.TheVariants.{Reloc}
-use Rattle.pe_loader.specs.Headers.{header_checks, optional_at, part_count, headers_size, image_size, relocs_of, FailsFirst}
+use Rattle.pe_loader.specs.Headers.{header_checks, optional_at, part_count, headers_size, image_size, table_at, relocs_of, FailsFirst}
 use Rattle.mm_base.specs.Range.{overlaps, Has}
 use Rattle.mm_base.proofs.RangeLemmas.{overlap_is_a_unit}
 use Rattle.pe_loader.specs.Sections.{part_at, range_of, section_checks, entry_check, checks}
@@ -242,6 +242,10 @@ parts_of bytes image is = ap (λ (i : Image). i.parts) is
 pub size_of : (bytes : List ℕ) (image : Image) → image ≡ image_of bytes → image.size ≡ image_size bytes
 unfolding image_of
 size_of bytes image is = ap (λ (i : Image). i.size) is
+
+pub table_of : (bytes : List ℕ) (image : Image) → image ≡ image_of bytes → image.table ≡ table_at bytes
+unfolding image_of
+table_of bytes image is = ap (λ (i : Image). i.table) is
 
 pub headers_of : (bytes : List ℕ) (image : Image) → image ≡ image_of bytes → image.headers ≡ headers_size bytes
 unfolding image_of

@@ -12,7 +12,7 @@ ghost use Rattle.pe_loader.specs.declared.fixup.Fixup.{Fixup as FixupValue};
 
 use crate::cursor::Cursor;
 use crate::fixup::Fixup;
-use crate::header::{headers_size, part_count};
+use crate::header::{headers_size, part_count, table_at};
 use crate::relocations::{Bounds, head_at};
 use crate::sections::part_at;
 use crate::writing::put;
@@ -51,8 +51,9 @@ fn lay_out(bytes: &[u8], out: &mut [u8])
     ensures { out.new ≡ plain_form bytes.now }
 {
     lay_headers(bytes, out);
+    let table = table_at(bytes);
     for k in 0..part_count(bytes) {
-        copy_part(bytes, &part_at(bytes, k), out);
+        copy_part(bytes, &part_at(bytes, table, k), out);
     }
 }
 
