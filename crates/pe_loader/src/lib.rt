@@ -11,6 +11,8 @@ mod numbers;
 mod placing;
 mod relocations;
 mod sections;
+#[cfg(test)]
+mod tests;
 mod writing;
 
 pub use inspecting::{inspect, part};

@@ -69,7 +69,14 @@ pub(crate) fn head_at(bytes: &[u8], cursor: &mut Cursor, end: usize, at: usize) 
 }
 
 /// Whether so many entries pass that begin at a place, in a block for this page; linear in them.
-fn entries_pass(bytes: &[u8], cursor: &mut Cursor, bounds: &Bounds, page: u32, at: usize, count: usize) -> bool
+fn entries_pass(
+    bytes: &[u8],
+    cursor: &mut Cursor,
+    bounds: &Bounds,
+    page: u32,
+    at: usize,
+    count: usize,
+) -> bool
     requires laid_out { IsLaidOut bytes.now }
     requires bounds { AreBounds bytes.now bounds.now }
     requires ready { IsReady bytes.now cursor.old at }
@@ -110,7 +117,11 @@ fn block_passes(bytes: &[u8], cursor: &mut Cursor, bounds: &Bounds, at: usize, h
     if !size_fits(at, size, bounds.end) {
         return false;
     }
-    entries_pass(bytes, cursor, bounds, head.page,
+    entries_pass(
+        bytes,
+        cursor,
+        bounds,
+        head.page,
         at + HEAD_BYTES,
         (size - HEAD_BYTES) / 2,
     )

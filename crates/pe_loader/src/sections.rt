@@ -7,7 +7,9 @@ ghost use Rattle.pe_loader.specs.Sections.{part_at as part_told, rights_of, rang
 ghost use Rattle.pe_loader.specs.Layout.{HasHeaders, EndBefore, AreInOrder};
 
 use crate::checking::check;
-use crate::header::{EBC, field, headers_size, image_size, machine, optional_at, part_count, section_at, table_at};
+use crate::header::{
+    EBC, field, headers_size, image_size, machine, optional_at, part_count, section_at, table_at,
+};
 use crate::numbers::u32_at;
 use crate::{Part, PeFault, PeKind};
 use mm_base::Range;
