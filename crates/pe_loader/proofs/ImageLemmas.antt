@@ -1,5 +1,5 @@
 -- Bytes are one image, or have one fault.
-use Rattle.std.proofs.Common.{◌≡◌, ◌⊎◌, inl, inr, ℕ, zero, suc, ◌+◌, ◌-◌, ◌*◌, ◌≤◌, ◌<◌, Bool, true, false, not, List, [], ◌∷◌, ◌++◌, length, get_or, cond, find, Option, Some, None, Result, Ok, Err, IfOk, IfErr, refl, sym, ap, ◌∙◌, subst, arith}
+use Rattle.std.proofs.Common.{◌≡◌, ◌⊎◌, inl, inr, ℕ, zero, suc, ◌+◌, ◌≤◌, ◌<◌, Bool, true, false, not, List, [], ◌∷◌, ◌++◌, find, Option, Some, None, Result, Ok, Err, IfOk, IfErr, refl, sym, ap, ◌∙◌, subst, arith}
 use Rattle.std.proofs.lemmas.Bool.{cond-true, cond-false, cases_Bool}
 use Rattle.mm_base.specs.Checks.{Check, first_failing}
 use Rattle.mm_base.specs.declared.image.Image.{Image}
@@ -10,13 +10,13 @@ use Rattle.pe_loader.specs.Headers.{header_checks, optional_at, part_count, head
 use Rattle.mm_base.specs.Range.{overlaps, Has}
 use Rattle.mm_base.proofs.RangeLemmas.{overlap_is_a_unit}
 use Rattle.pe_loader.specs.Sections.{part_at, range_of, section_checks, entry_check, checks}
-use Rattle.pe_loader.specs.Fixups.{Block, block_at, is_block, block_passes, IsBlockAt, Leads, fixups_in, directory_end, directory_fits, AreFixups, LeadsToBad}
-use Rattle.pe_loader.specs.Images.{image_of, IsImage, IsImageOf, AreRead, AreRefused, HasBadRelocations, HasFault}
+use Rattle.pe_loader.specs.Fixups.{Block, block_at, is_block, block_passes, IsBlockAt, Leads, fixups_in, directory_end, directory_fits, AreFixups}
+use Rattle.pe_loader.specs.Images.{image_of, IsImage, IsImageOf, AreRead, AreRefused, HasFault}
 use Rattle.pe_loader.specs.Layout.{IsLaidOut}
 use Rattle.pe_loader.specs.declared.fixup.Fixup.{Fixup}
 use Rattle.pe_loader.proofs.HeaderLemmas.{has_headers}
 use Rattle.pe_loader.proofs.SectionLemmas.{laid_out}
-use Rattle.pe_loader.proofs.BlockLemmas.{size_within, block_room}
+use Rattle.pe_loader.proofs.BlockLemmas.{size_within}
 
 -- ---- checks behind others
 

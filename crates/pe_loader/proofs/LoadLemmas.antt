@@ -1,7 +1,7 @@
 -- The plain form as it is laid out, and fixups as they are applied.
-use Rattle.std.proofs.Common.{◌≡◌, ◌⊎◌, inl, inr, ℕ, zero, suc, ◌+◌, ◌-◌, ◌*◌, ◌/◌, ◌≤◌, ◌<◌, Bool, true, false, cond, ltb, List, [], ◌∷◌, ◌++◌, map, length, get_or, take, drop, fold, refl, sym, ap, ◌∙◌, subst, arith, below_more}
-use Rattle.std.specs.List.{range_with_len, list_all}
-use Rattle.std.proofs.lemmas.Bool.{cond-true, cond-false, cases_Bool, cases_lt, cases_eq, lt-ltb, le-ltb, or_cases, and_parts, leb-true, eqb-true}
+use Rattle.std.proofs.Common.{◌≡◌, ◌⊎◌, inl, inr, ℕ, ◌+◌, ◌-◌, ◌*◌, ◌/◌, ◌≤◌, ◌<◌, true, false, cond, ltb, List, [], ◌∷◌, ◌++◌, length, get_or, take, drop, fold, sym, ap, ◌∙◌, subst, arith, below_more}
+use Rattle.std.specs.List.{list_all}
+use Rattle.std.proofs.lemmas.Bool.{cond-true, cond-false, cases_Bool, cases_lt, lt-ltb, le-ltb, or_cases, and_parts, leb-true, eqb-true}
 use Rattle.std.proofs.lemmas.Bool.Decides.{nat_tests}
 use Rattle.std.proofs.lemmas.List.{length-take-le, length-append, length-drop, get_or_append_left, get_or-append_right, get_or-take, get_or-drop}
 use Rattle.std.proofs.lemmas.List.FromFn.{fill_by_all}
@@ -12,10 +12,10 @@ use Rattle.mm_base.specs.declared.range.Range.{Range}
 use Rattle.pe_loader.specs.Headers.{part_count, headers_size, image_size, relocs_of}
 use Rattle.pe_loader.specs.Sections.{part_at}
 use Rattle.pe_loader.specs.Forms.{copies_to, plain_byte, plain_form}
-use Rattle.pe_loader.specs.Fixups.{changed_by, fixup_passes, StaysWithin, fixup_of, fixups_from, Block, block_at, is_block, block_passes, directory_end, directory_fits, IsBlockAt, Leads, fixups_in, AreFixups}
+use Rattle.pe_loader.specs.Fixups.{fixup_passes, StaysWithin, fixup_of, fixups_from, Block, block_at, is_block, block_passes, Leads, fixups_in, AreFixups}
 use Rattle.pe_loader.specs.Images.{AreRead}
 use Rattle.pe_loader.specs.Loading.{put, fixed}
-use Rattle.pe_loader.specs.Layout.{HasCopy, IsLaidOut}
+use Rattle.pe_loader.specs.Layout.{IsLaidOut}
 use Rattle.pe_loader.specs.Reading.{IsHead}
 use Rattle.pe_loader.specs.declared.fixup.Fixup.{Fixup}
 use Rattle.pe_loader.specs.declared.relocations.Head.{Head}

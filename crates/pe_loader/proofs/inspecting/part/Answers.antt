@@ -1,6 +1,4 @@
-use Rattle.std.proofs.Common.{◌+◌, ap, arith}
-use Rattle.mm_base.specs.declared.image.Image.{Image}
-use Rattle.pe_loader.specs.Images.{image_of}
+use Rattle.std.proofs.Common.{arith}
 use Rattle.pe_loader.proofs.SectionLemmas.{entry_in}
 use Rattle.pe_loader.proofs.ImageLemmas.{laid_out_of, parts_of, table_of}
 use Rattle.pe_loader.proofs.inspecting.part.Goals as goal

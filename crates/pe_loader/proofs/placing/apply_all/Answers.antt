@@ -1,11 +1,10 @@
-use Rattle.std.proofs.Common.{◌≡◌, ◌+◌, ◌-◌, ◌*◌, ◌/◌, ◌≤◌, ◌∙◌, ℕ, true, fold, List, ap, subst, sym, arith}
+use Rattle.std.proofs.Common.{◌+◌, ◌-◌, ◌*◌, ◌/◌, ◌∙◌, ℕ, fold, List, ap, subst, sym, arith}
 use Rattle.std.specs.List.{list_all}
 use Rattle.std.proofs.lemmas.Bool.{leb-true}
 use Rattle.mm_base.specs.declared.range.Range.{Range}
 use Rattle.pe_loader.specs.Headers.{image_size, relocs_of}
 use Rattle.pe_loader.specs.Fixups.{fixup_passes}
 use Rattle.pe_loader.specs.Loading.{fixed}
-use Rattle.pe_loader.specs.declared.fixup.Fixup.{Fixup}
 use Rattle.pe_loader.proofs.FormLemmas.{ready_later}
 use Rattle.pe_loader.proofs.BlockLemmas.{size_within}
 use Rattle.pe_loader.proofs.LoadLemmas.{Rest, rest_all, rest_more, rest_ends, fixups_by_head, fixups_pass}

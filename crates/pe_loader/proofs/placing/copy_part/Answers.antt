@@ -1,4 +1,4 @@
-use Rattle.std.proofs.Common.{◌+◌, ◌≤◌, length, arith}
+use Rattle.std.proofs.Common.{arith}
 use Rattle.pe_loader.proofs.LoadLemmas.{copied_part}
 use Rattle.pe_loader.proofs.placing.copy_part.Goals as goal
 

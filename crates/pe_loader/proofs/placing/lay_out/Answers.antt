@@ -1,4 +1,4 @@
-use Rattle.std.proofs.Common.{◌≡◌, ◌+◌, ◌-◌, ◌∙◌, ℕ, cond, get_or, ap, subst, sym, arith}
+use Rattle.std.proofs.Common.{◌≡◌, ◌+◌, ◌-◌, cond, get_or, ap, subst, arith}
 use Rattle.mm_base.specs.declared.image.Part.{Part}
 use Rattle.pe_loader.specs.Forms.{copies_to}
 use Rattle.pe_loader.proofs.LoadLemmas.{laid_headers, laid_more, laid_all, copy_in_image}

@@ -1,9 +1,9 @@
-use Rattle.std.proofs.Common.{◌≡◌, ◌&&◌, ◌∙◌, ◌+◌, ◌-◌, ◌/◌, ◌%◌, Bool, true, false, eqb, leb, sym, ap, arith}
+use Rattle.std.proofs.Common.{◌&&◌, ◌∙◌, ◌+◌, ◌-◌, ◌/◌, sym, ap, arith}
 use Rattle.std.specs.List.{list_all}
 use Rattle.std.proofs.lemmas.Bool.{leb-true}
 use Rattle.pe_loader.specs.Headers.{image_size, relocs_of}
 use Rattle.pe_loader.specs.Forms.{plain_form}
-use Rattle.pe_loader.specs.Fixups.{fixup_passes, fixups_from, directory_end}
+use Rattle.pe_loader.specs.Fixups.{fixup_passes, fixups_from}
 use Rattle.pe_loader.proofs.BlockLemmas.{block_room, passes_by_head, sized_by}
 use Rattle.pe_loader.proofs.relocations.block_passes.Goals as goal
 

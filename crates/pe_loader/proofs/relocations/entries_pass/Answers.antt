@@ -1,10 +1,8 @@
-use Rattle.std.proofs.Common.{◌≡◌, ◌&&◌, ◌∙◌, ◌+◌, ◌-◌, ◌*◌, Bool, true, false, sym, ap, arith}
+use Rattle.std.proofs.Common.{◌&&◌, ◌∙◌, ◌+◌, ◌-◌, ◌*◌, Bool, sym, ap, arith}
 use Rattle.std.specs.List.{list_all}
-use Rattle.mm_base.specs.declared.range.Range.{Range}
-use Rattle.std.proofs.Common.{ℕ}
 use Rattle.pe_loader.specs.Headers.{image_size, relocs_of}
 use Rattle.pe_loader.specs.Forms.{plain_form}
-use Rattle.pe_loader.specs.Fixups.{fixup_passes, fixup_of, fixups_from}
+use Rattle.pe_loader.specs.Fixups.{fixup_passes, fixups_from}
 use Rattle.pe_loader.specs.declared.fixup.Fixup.{Fixup}
 use Rattle.pe_loader.proofs.FormLemmas.{ready_later}
 use Rattle.pe_loader.proofs.BlockLemmas.{all_more, told_of}
