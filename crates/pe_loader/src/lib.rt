@@ -5,14 +5,18 @@ mod checking;
 mod cursor;
 mod fixup;
 mod header;
+#[cfg(test)]
+mod inspect_tests;
 mod inspecting;
 pub mod laws;
 mod numbers;
+#[cfg(test)]
+mod place_tests;
 mod placing;
 mod relocations;
-mod sections;
 #[cfg(test)]
-mod tests;
+mod samples;
+mod sections;
 mod writing;
 
 pub use inspecting::{inspect, part};
