@@ -1,5 +1,5 @@
 -- Relocation blocks, one behind another.
-use Rattle.std.proofs.Common.{◌≡◌, ◌⊎◌, ℕ, zero, suc, ◌+◌, ◌-◌, ◌*◌, ◌/◌, ◌%◌, ◌≤◌, ◌<◌, Bool, true, false, not, ◌&&◌, eqb, leb, List, [], ◌∷◌, ◌++◌, refl, sym, ap, ◌∙◌, subst, inl, inr, arith}
+use Rattle.std.proofs.Common.{◌≡◌, ℕ, suc, ◌+◌, ◌-◌, ◌*◌, ◌/◌, ◌%◌, ◌≤◌, ◌<◌, Bool, true, false, not, ◌&&◌, eqb, leb, List, [], ◌∷◌, ◌++◌, refl, sym, ap, ◌∙◌, subst, inr, arith}
 use Rattle.std.specs.List.{list_all}
 use Rattle.std.proofs.lemmas.Bool.{and_left, and_from, and_parts, le-leb, lt-leb, leb-true, eq-eqb, ne_eqb}
 use Rattle.std.proofs.lemmas.Bool.Decides.{nat_tests}
@@ -7,7 +7,7 @@ use Rattle.mm_base.specs.Numbers.{number_at}
 use Rattle.mm_base.specs.declared.range.Range.{Range}
 use Rattle.pe_loader.specs.Headers.{image_size, relocs_of}
 use Rattle.pe_loader.specs.Forms.{plain_form}
-use Rattle.pe_loader.specs.Fixups.{fixup_of, fixup_passes, fixups_from, Block, block_at, directory_end, directory_fits, is_block, block_passes, IsBlockAt, Leads, fixups_in, AreFixups, LeadsToBad}
+use Rattle.pe_loader.specs.Fixups.{fixup_of, fixup_passes, fixups_from, Block, block_at, directory_end, directory_fits, is_block, block_passes, IsBlockAt, Leads, fixups_in}
 use Rattle.pe_loader.specs.Images.{AreRead, AreRefused}
 use Rattle.pe_loader.specs.Reading.{IsHead}
 use Rattle.pe_loader.specs.declared.fixup.Fixup.{Fixup}

@@ -1,6 +1,5 @@
 -- The plain form, stretch by stretch.
-use Rattle.std.proofs.Common.{◌≡◌, ◌⊎◌, ℕ, ◌+◌, ◌*◌, ◌-◌, ◌≤◌, ◌<◌, Bool, true, false, cond, List, map, length, get_or, Option, Some, None, find, refl, sym, ap, ◌∙◌, subst, arith, inl, inr, suc}
-use Rattle.std.specs.List.{range_with_len}
+use Rattle.std.proofs.Common.{◌≡◌, ℕ, ◌+◌, ◌*◌, ◌-◌, ◌≤◌, ◌<◌, true, false, List, length, get_or, Option, Some, find, sym, ap, ◌∙◌, subst, arith, inl, inr, suc}
 use Rattle.std.specs.Option.{option_map_or}
 use Rattle.std.proofs.lemmas.Bool.{cond-true, cond-false, lt-ltb, le-ltb, false_from_ne_true, cases_order}
 use Rattle.std.proofs.lemmas.Bool.Decides.{nat_tests}
@@ -14,7 +13,6 @@ use Rattle.pe_loader.specs.Forms.{copies_to, plain_byte, plain_form}
 use Rattle.pe_loader.specs.Layout.{IsLaidOut, EndBefore, AreInOrder}
 use Rattle.pe_loader.specs.Reading.{IsStretch, CopyNothing, IsReady}
 use Rattle.pe_loader.specs.declared.cursor.Cursor.{Cursor}
-use Rattle.pe_loader.specs.declared.cursor.Stretch.{Stretch}
 use Rattle.pe_loader.proofs.NumberLemmas.{number_at_2, number_at_4}
 use Rattle.pe_loader.proofs.RangeLemmas.{find_none, find_only}
 use Rattle.pe_loader.proofs.SectionLemmas.{ends_before}

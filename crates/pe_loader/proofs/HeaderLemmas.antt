@@ -1,5 +1,5 @@
 -- What the checks of an image come to, one after another.
-use Rattle.std.proofs.Common.{◌≡◌, ℕ, get_or, take, tests, ◌+◌, ◌≤◌, ◌<◌, Bool, true, false, List, length, None, refl, ap, ◌∙◌, rules}
+use Rattle.std.proofs.Common.{◌≡◌, ℕ, get_or, take, tests, ◌<◌, true, false, List, length, None, ap, ◌∙◌, rules}
 use Rattle.mm_base.proofs.CheckLemmas.{AllPass, first_at, all_pass}
 use Rattle.mm_base.specs.Checks.{Check, first_failing}
 use Rattle.mm_base.specs.declared.image.PeFault.{PeFault}

@@ -1,20 +1,22 @@
 -- Bytes are one image, or have one fault.
-use Rattle.std.proofs.Common.{◌≡◌, ◌⊎◌, inl, inr, ℕ, zero, suc, ◌+◌, ◌-◌, ◌*◌, ◌≤◌, ◌<◌, Bool, true, false, not, List, [], ◌∷◌, ◌++◌, length, get_or, cond, find, Option, Some, None, Result, Ok, Err, IfOk, IfErr, refl, sym, ap, ◌∙◌, subst, arith}
+use Rattle.std.proofs.Common.{◌≡◌, ◌⊎◌, inl, inr, ℕ, zero, suc, ◌+◌, ◌≤◌, ◌<◌, Bool, true, false, not, List, [], ◌∷◌, ◌++◌, find, Option, Some, None, Result, Ok, Err, IfOk, IfErr, refl, sym, ap, ◌∙◌, subst, arith}
 use Rattle.std.proofs.lemmas.Bool.{cond-true, cond-false, cases_Bool}
 use Rattle.mm_base.specs.Checks.{Check, first_failing}
 use Rattle.mm_base.specs.declared.image.Image.{Image}
 use Rattle.mm_base.specs.declared.image.PeFault.{PeFault}
 use Rattle.mm_base.specs.declared.image.PeKind.{PeKind}
 use Rattle.mm_base.specs.declared.image.PeKind.TheVariants.{Reloc}
-use Rattle.pe_loader.specs.Headers.{header_checks, optional_at, part_count, relocs_of, FailsFirst}
-use Rattle.pe_loader.specs.Sections.{section_checks, entry_check, checks}
-use Rattle.pe_loader.specs.Fixups.{Block, block_at, is_block, block_passes, IsBlockAt, Leads, fixups_in, directory_end, directory_fits, AreFixups, LeadsToBad}
-use Rattle.pe_loader.specs.Images.{image_of, IsImage, IsImageOf, AreRead, AreRefused, HasBadRelocations, HasFault}
+use Rattle.pe_loader.specs.Headers.{header_checks, optional_at, part_count, headers_size, image_size, table_at, relocs_of, FailsFirst}
+use Rattle.mm_base.specs.Range.{overlaps, Has}
+use Rattle.mm_base.proofs.RangeLemmas.{overlap_is_a_unit}
+use Rattle.pe_loader.specs.Sections.{part_at, range_of, section_checks, entry_check, checks}
+use Rattle.pe_loader.specs.Fixups.{Block, block_at, is_block, block_passes, IsBlockAt, Leads, fixups_in, directory_end, directory_fits, AreFixups}
+use Rattle.pe_loader.specs.Images.{image_of, IsImage, IsImageOf, AreRead, AreRefused, HasFault}
 use Rattle.pe_loader.specs.Layout.{IsLaidOut}
 use Rattle.pe_loader.specs.declared.fixup.Fixup.{Fixup}
 use Rattle.pe_loader.proofs.HeaderLemmas.{has_headers}
 use Rattle.pe_loader.proofs.SectionLemmas.{laid_out}
-use Rattle.pe_loader.proofs.BlockLemmas.{size_within, block_room}
+use Rattle.pe_loader.proofs.BlockLemmas.{size_within}
 
 -- ---- checks behind others
 
@@ -236,3 +238,36 @@ either bytes = by_checks (first_failing (checks bytes)) refl
 pub parts_of : (bytes : List ℕ) (image : Image) → image ≡ image_of bytes → image.parts ≡ part_count bytes
 unfolding image_of
 parts_of bytes image is = ap (λ (i : Image). i.parts) is
+
+pub size_of : (bytes : List ℕ) (image : Image) → image ≡ image_of bytes → image.size ≡ image_size bytes
+unfolding image_of
+size_of bytes image is = ap (λ (i : Image). i.size) is
+
+pub table_of : (bytes : List ℕ) (image : Image) → image ≡ image_of bytes → image.table ≡ table_at bytes
+unfolding image_of
+table_of bytes image is = ap (λ (i : Image). i.table) is
+
+pub headers_of : (bytes : List ℕ) (image : Image) → image ≡ image_of bytes → image.headers ≡ headers_size bytes
+unfolding image_of
+headers_of bytes image is = ap (λ (i : Image). i.headers) is
+
+-- ---- the sections of an image
+
+pub sections_lie_within : (bytes : List ℕ) (image : Image) (fixups : List Fixup) (k : ℕ) → IsImage bytes image fixups → k < image.parts
+    → (image.headers ≤ (part_at bytes k).at) × ((part_at bytes k).at + (part_at bytes k).length ≤ image.size)
+sections_lie_within bytes image fixups k is h =
+    let laid = laid_out_of bytes is.passes in
+    let parts = parts_of bytes image is.says in
+    let lies = laid.each k (omega arith) in
+    (omega (arith, headers_of bytes image is.says, lies.from), omega (arith, size_of bytes image is.says, lies.to))
+
+pub sections_lie_apart : (bytes : List ℕ) (image : Image) (fixups : List Fixup) (j k place : ℕ) → IsImage bytes image fixups → j < k → k < image.parts
+    → Has (range_of (part_at bytes j)) place → Has (range_of (part_at bytes k)) place → ⊥
+sections_lie_apart bytes image fixups j k place is earlier h one other =
+    let laid = laid_out_of bytes is.passes in
+    let parts = parts_of bytes image is.says in
+    let apart = laid.apart j k earlier (omega arith) in
+    let both : overlaps (range_of (part_at bytes j)) (range_of (part_at bytes k)) ≡ true =
+    (overlap_is_a_unit (range_of (part_at bytes j)) (range_of (part_at bytes k))).1 (place, (one, other)) in
+    let wrong : true ≡ false = sym both ∙ apart in
+    cc

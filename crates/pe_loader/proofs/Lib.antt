@@ -5,3 +5,4 @@ pub mod SectionLemmas
 pub mod FormLemmas
 pub mod BlockLemmas
 pub mod ImageLemmas
+pub mod LoadLemmas

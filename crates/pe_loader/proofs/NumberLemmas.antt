@@ -1,7 +1,7 @@
 -- Numbers in bytes, byte by byte.
-use Rattle.std.proofs.Common.{◌≡◌, ℕ, zero, suc, ◌+◌, ◌*◌, ◌≤◌, ◌<◌, List, length, get_or, take, drop, refl, ap, ◌∙◌, add-one, arith}
+use Rattle.std.proofs.Common.{◌≡◌, ℕ, suc, ◌+◌, ◌*◌, ◌≤◌, ◌<◌, List, length, get_or, ap, add-one, arith}
 use Rattle.std.proofs.Math.Seq.{drop-cons}
-use Rattle.mm_base.specs.Numbers.{number_of, number_at}
+use Rattle.mm_base.specs.Numbers.{number_at}
 
 -- the first byte, and the number in the others
 pub number_at-suc : (xs : List ℕ) (at n : ℕ) → at < length xs → number_at xs at (suc n) ≡ get_or xs at 0 + 256 * number_at xs (suc at) n

@@ -1,6 +1,5 @@
 -- Sections that pass their checks.
-use Rattle.std.proofs.Common.{◌≡◌, ◌⊎◌, inl, inr, ℕ, zero, suc, ◌+◌, ◌*◌, ◌≤◌, ◌<◌, Bool, true, false, not, List, None, get_or, take, length, refl, sym, ap, ◌∙◌, subst, arith, add-one}
-use Rattle.std.specs.List.{range_with_len}
+use Rattle.std.proofs.Common.{◌≡◌, inl, inr, ℕ, zero, suc, ◌+◌, ◌≤◌, ◌<◌, Bool, true, false, List, None, get_or, length, refl, sym, ap, ◌∙◌, subst, arith, add-one}
 use Rattle.std.proofs.lemmas.Bool.{or_from, or_left, or_right, or_parts, and_parts, not-true, cases_eq}
 use Rattle.std.proofs.lemmas.Bool.Decides.{nat_tests}
 use Rattle.std.proofs.lemmas.List.FromFn.{length-map-range_with_len, get_or-map-range_with_len, take-map-range_with_len}
@@ -12,7 +11,7 @@ use Rattle.mm_base.specs.declared.range.Range.{Range}
 use Rattle.mm_base.specs.declared.image.PeFault.{PeFault}
 use Rattle.mm_base.specs.declared.image.PeKind.{PeKind}
 use Rattle.mm_base.specs.declared.image.PeKind.TheVariants.{Section}
-use Rattle.pe_loader.specs.Headers.{part_count, section_at, headers_size, image_size, FailsFirst}
+use Rattle.pe_loader.specs.Headers.{part_count, section_at, FailsFirst}
 use Rattle.pe_loader.specs.Sections.{part_at, range_of, lies_in, overlaps_first, section_check, section_checks}
 use Rattle.pe_loader.specs.Layout.{HasHeaders, LiesIn, IsLaidOut, AreInOrder}
 use Rattle.pe_loader.proofs.HeaderLemmas.{passed_check, fails}

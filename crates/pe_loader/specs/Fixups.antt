@@ -1,6 +1,6 @@
 -- The relocations of an image: PE32+ as UEFI images use it. The directory has blocks one behind another; a block has the address of a
 -- page, its own size, and an entry of two bytes for each fixup. They are read from the plain form.
-use Rattle.std.specs.Prelude.{◌≡◌, ℕ, zero, suc, ◌+◌, ◌-◌, ◌/◌, ◌%◌, Bool, true, false, if◌then◌else◌, ◌==◌, ◌&&◌, ◌||◌, not, nat_le, List, [], ◌∷◌}
+use Rattle.std.specs.Prelude.{◌≡◌, ◌⊎◌, ℕ, zero, suc, ◌+◌, ◌-◌, ◌/◌, ◌%◌, ◌≤◌, Bool, true, false, if◌then◌else◌, ◌==◌, ◌&&◌, ◌||◌, not, nat_le, List, [], ◌∷◌}
 use Rattle.std.specs.List.{list_all, flat_map}
 use Rattle.mm_base.specs.Numbers.{number_at}
 use Rattle.mm_base.specs.Range.{overlaps}
@@ -16,6 +16,10 @@ fixup_of page word = record { kind = word / 4096; at = page + word % 4096 }
 -- the bytes that a fixup changes: four for kind 3, eight for kind 10, and two for kinds 1 and 2
 abbrev pub changed_by : Fixup → Range
 changed_by fixup = record { base = fixup.at; length = if fixup.kind == 3 then 4 else if fixup.kind == 10 then 8 else 2 }
+
+-- A fixup that does something stays within so many bytes.
+abbrev pub StaysWithin : ℕ → Fixup → Type 0
+StaysWithin size fixup = (fixup.kind ≡ 0) ⊎ (fixup.at + (changed_by fixup).length ≤ size)
 
 -- Whether a fixup of an image of this size and with this directory passes: of kind 0, which does nothing, no place is asked; one of
 -- another kind stays in the image, and doesn't touch the directory.

@@ -73,7 +73,7 @@ relocs_of bytes =
 unfoldable pub header_checks : List ℕ → List (Check PeKind)
 header_checks bytes =
     record { kind = Short; at = 0; passes = nat_le 64 (length bytes) }
-    ∷ record { kind = Mz; at = 0; passes = bytes_eq (take 2 (drop 0 bytes)) (codes "MZ") }
+    ∷ record { kind = Mz; at = 0; passes = bytes_eq (take 2 bytes) (codes "MZ") }
     ∷ record { kind = Lfanew; at = 0x3c; passes = nat_le (pe_at bytes + 136) (length bytes) }
     ∷ record { kind = Signature; at = pe_at bytes; passes = bytes_eq (take 4 (drop (pe_at bytes) bytes)) (0x50 ∷ 0x45 ∷ 0 ∷ 0 ∷ []) }
     ∷ record { kind = Machine; at = pe_at bytes + 4; passes = (machine_of bytes == 0x0ebc) || (machine_of bytes == 0x8664) || (machine_of bytes == 0xaa64) }

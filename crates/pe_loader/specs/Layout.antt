@@ -15,11 +15,15 @@ pub record HasHeaders (bytes : List ℕ) : Type 0 where
   pub in_file : headers_size bytes ≤ length bytes
   pub in_image : headers_size bytes ≤ image_size bytes
 
+-- What a section copies lies in the file, if it copies anything.
+abbrev pub HasCopy : List ℕ → Part → Type 0
+HasCopy bytes part = (part.copied ≡ 0) ⊎ (part.raw + part.copied ≤ length bytes)
+
 -- a section lies where it may
 pub record LiesIn (bytes : List ℕ) (part : Part) : Type 0 where
   pub from : headers_size bytes ≤ part.at
   pub to : part.at + part.length ≤ image_size bytes
-  pub raw : (part.copied ≡ 0) ⊎ (part.raw + part.copied ≤ length bytes)
+  pub raw : HasCopy bytes part
 
 -- the headers and all sections pass their checks
 pub record IsLaidOut (bytes : List ℕ) : Type 0 where

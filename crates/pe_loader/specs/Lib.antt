@@ -3,5 +3,7 @@ pub mod Sections
 pub mod Forms
 pub mod Fixups
 pub mod Images
+pub mod ImageLaws
+pub mod Loading
 pub mod Layout
 pub mod Reading

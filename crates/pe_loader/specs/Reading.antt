@@ -1,10 +1,11 @@
 -- How the plain form is read from its front on, without memory of its own.
 use Rattle.std.specs.Prelude.{◌≡◌, ℕ, ◌+◌, ◌-◌, ◌≤◌, ◌<◌, true, false, if◌then◌else◌, List, length, slice_index}
-use Rattle.pe_loader.specs.Headers.{part_count}
+use Rattle.pe_loader.specs.Headers.{part_count, image_size, relocs_of}
 use Rattle.pe_loader.specs.Sections.{part_at}
 use Rattle.pe_loader.specs.Forms.{copies_to, plain_byte}
 use Rattle.pe_loader.specs.Layout.{EndBefore, AreInOrder}
-use Rattle.pe_loader.specs.Fixups.{block_at, is_block}
+use Rattle.pe_loader.specs.Fixups.{block_at, is_block, directory_end}
+use Rattle.pe_loader.specs.declared.relocations.Bounds.{Bounds}
 use Rattle.pe_loader.specs.declared.relocations.Head.{Head}
 use Rattle.pe_loader.specs.declared.cursor.Cursor.{Cursor}
 use Rattle.pe_loader.specs.declared.cursor.Stretch.{Stretch}
@@ -27,6 +28,12 @@ pub record IsReady (bytes : List ℕ) (cursor : Cursor) (at : ℕ) : Type 0 wher
   pub ended : EndBefore bytes cursor.first at
   pub begun : cursor.stretch.begin ≤ at
   pub stretch : IsStretch bytes cursor.stretch
+
+-- what relocations are read within
+pub record AreBounds (bytes : List ℕ) (bounds : Bounds) : Type 0 where
+  pub size : bounds.size ≡ image_size bytes
+  pub directory : bounds.directory ≡ relocs_of bytes
+  pub end : bounds.end ≡ directory_end bytes
 
 -- a head is that of the block at a place
 pub record IsHead (bytes : List ℕ) (at : ℕ) (head : Head) : Type 0 where

@@ -1,5 +1,5 @@
 -- The sections of an image, and its entry point: PE32+ as UEFI images use it.
-use Rattle.std.specs.Prelude.{ℕ, zero, suc, ◌+◌, ◌%◌, Bool, true, false, if◌then◌else◌, ◌==◌, ◌&&◌, ◌||◌, not, nat_le, nat_lt, min, List, [], ◌∷◌, ◌++◌, map, length}
+use Rattle.std.specs.Prelude.{ℕ, zero, suc, ◌+◌, ◌%◌, Bool, false, if◌then◌else◌, ◌==◌, ◌&&◌, ◌||◌, not, nat_le, nat_lt, min, List, [], ◌∷◌, ◌++◌, map, length}
 use Rattle.std.specs.List.{range_with_len, list_any}
 use Rattle.mm_base.specs.Checks.{Check}
 use Rattle.mm_base.specs.Numbers.{number_at, has_bit}
@@ -63,8 +63,8 @@ section_check bytes k = record {
 abbrev pub holds_code : ℕ → Part → Bool
 holds_code place part = has_bit part.rights 4 && nat_le part.at place && nat_le (place + 2) (part.at + part.length)
 
--- whether the entry point is where code can begin: code of EBC is aligned to 2 and in a section; of native code, which never runs
--- here, no more is asked than that it is in the image
+-- whether the entry point is where code can begin: that of EBC stands at an even place and in a section that may be executed; of
+-- native code no more is asked than that it lies in the image
 abbrev pub entry_passes : List ℕ → Bool
 entry_passes bytes =
     if machine_of bytes == 0x0ebc

@@ -6,7 +6,7 @@ ghost use Rattle.pe_loader.specs.Forms.{plain_byte, plain_form};
 ghost use Rattle.pe_loader.specs.Layout.{IsLaidOut, EndBefore, AreInOrder};
 ghost use Rattle.pe_loader.specs.Reading.{IsStretch, IsReady};
 
-use crate::header::{headers_size, image_size, part_count};
+use crate::header::{headers_size, image_size, part_count, table_at};
 use crate::sections::{are_in_order, part_at};
 
 /// A stretch of the plain form: bytes of the file from `raw` on where they are copied, and zeros else.
@@ -35,9 +35,10 @@ fn ended_at(bytes: &[u8], first: u16, at: usize) -> u16
     ensures few { result ≤ part_count_told bytes.now }
     ensures ended { EndBefore bytes.now result at }
 {
+    let table = table_at(bytes);
     let count = part_count(bytes);
     for k in first..count {
-        let part = part_at(bytes, k);
+        let part = part_at(bytes, table, k);
         if part.at as usize + part.length as usize > at {
             return k;
         }
@@ -57,9 +58,10 @@ fn stretch_behind(bytes: &[u8], first: u16, ordered: bool, at: usize) -> Stretch
     ensures begun { result.begin ≤ at }
     ensures there { at < result.end }
 {
+    let table = table_at(bytes);
     let mut end = image_size(bytes) as usize;
     for k in first..part_count(bytes) {
-        let part = part_at(bytes, k);
+        let part = part_at(bytes, table, k);
         let begin = part.at as usize;
         if at < begin {
             end = end.min(begin);

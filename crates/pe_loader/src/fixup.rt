@@ -1,7 +1,9 @@
 //! Fixups of an image.
-ghost use Rattle.std.specs.Prelude.{◌≡◌, ◌<◌, ◌^◌};
-ghost use Rattle.pe_loader.specs.Fixups.{fixup_of, changed_by, fixup_passes};
+ghost use Rattle.std.specs.Prelude.{◌≡◌, ◌+◌, ◌≤◌, ◌<◌, ◌^◌, length};
+ghost use Rattle.pe_loader.specs.Fixups.{fixup_of, changed_by, fixup_passes, StaysWithin};
+ghost use Rattle.pe_loader.specs.Loading.{fixed};
 
+use crate::writing::{raise_u16, raise_u32, raise_u64};
 use mm_base::Range;
 
 /// What an entry of a relocation block says: its kind, and the place that it is for, counted from the image's begin.
@@ -48,6 +50,21 @@ impl Fixup {
                 changed.base + changed.length <= size as u64 && !changed.overlaps(directory)
             }
             _ => false,
+        }
+    }
+
+    /// Applies the fixup to an image, for how far it is placed behind the address that it was linked for.
+    #[tactic(auto, unfolding(crate::specs::Loading::fixed))]
+    pub(crate) fn apply(&self, difference: u64, out: &mut [u8])
+        requires { StaysWithin (length out.old) self.now }
+        ensures { out.new ≡ fixed difference out.old self.now }
+    {
+        match self.kind {
+            1 => raise_u16(out, self.at, (difference / 0x1_0000 % 0x1_0000) as u16),
+            2 => raise_u16(out, self.at, (difference % 0x1_0000) as u16),
+            3 => raise_u32(out, self.at, (difference % 0x1_0000_0000) as u32),
+            10 => raise_u64(out, self.at, difference),
+            _ => {}
         }
     }
 }

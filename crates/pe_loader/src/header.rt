@@ -216,7 +216,7 @@ fn has_room(bytes: &[u8]) -> bool
 /// Whether the DOS header begins with its signature.
 fn is_mz(bytes: &[u8]) -> bool
     requires { 64 ≤ length bytes.now }
-    ensures { result ≡ bytes_eq (take 2 (drop 0 bytes.now)) (codes "MZ") }
+    ensures { result ≡ bytes_eq (take 2 bytes.now) (codes "MZ") }
 {
     stands_at(bytes, 0, &MZ)
 }

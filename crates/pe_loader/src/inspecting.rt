@@ -85,5 +85,5 @@ pub fn part(bytes: &[u8], image: &Image, k: u16) -> Part
     requires within { k < image.now.parts }
     ensures { result ≡ part_told bytes.now k }
 {
-    part_at(bytes, k)
+    part_at(bytes, image.table as usize, k)
 }

@@ -5,10 +5,20 @@ mod checking;
 mod cursor;
 mod fixup;
 mod header;
+#[cfg(test)]
+mod inspect_tests;
 mod inspecting;
+pub mod laws;
 mod numbers;
+#[cfg(test)]
+mod place_tests;
+mod placing;
 mod relocations;
+#[cfg(test)]
+mod samples;
 mod sections;
+mod writing;
 
 pub use inspecting::{inspect, part};
 pub use mm_base::{Image, Part, PeFault, PeKind};
+pub use placing::place;

@@ -4,14 +4,15 @@ ghost use Rattle.std.specs.Bool.{OnTrue, OnFalse};
 ghost use Rattle.std.specs.List.{list_all};
 ghost use Rattle.pe_loader.specs.Headers.{image_size as image_size_told, relocs_of};
 ghost use Rattle.pe_loader.specs.Forms.{plain_form};
-ghost use Rattle.pe_loader.specs.Fixups.{fixup_passes, fixups_from, block_at, is_block, block_passes as block_is_fit, directory_end as directory_end_told, directory_fits};
+ghost use Rattle.pe_loader.specs.Fixups.{fixup_passes, fixups_from, block_at, is_block, block_passes as block_is_fit, directory_end, directory_fits};
 ghost use Rattle.pe_loader.specs.Images.{AreRead, AreRefused};
 ghost use Rattle.pe_loader.specs.Layout.{HasHeaders, IsLaidOut};
-ghost use Rattle.pe_loader.specs.Reading.{IsReady, IsHead};
+ghost use Rattle.pe_loader.specs.Reading.{IsReady, AreBounds, IsHead};
 
 use crate::cursor::Cursor;
 use crate::fixup::Fixup;
 use crate::header::{image_size, relocs};
+use mm_base::Range;
 
 /// How many bytes a block's head has.
 const HEAD_BYTES: usize = 8;
@@ -23,25 +24,40 @@ pub(crate) struct Head {
     pub(crate) size: u32,
 }
 
-/// Where the directory ends.
-fn directory_end(bytes: &[u8]) -> usize
-    requires { HasHeaders bytes.now }
-    ensures { result ≡ directory_end_told bytes.now }
-{
-    let directory = relocs(bytes);
-    directory.base as usize + directory.length as usize
+/// What the relocations are read within: the image's size, the directory, and where this ends.
+#[derive(Clone, Copy, Debug, PartialEq, Eq)]
+pub(crate) struct Bounds {
+    pub(crate) size: u32,
+    pub(crate) directory: Range,
+    pub(crate) end: usize,
+}
+
+impl Bounds {
+    /// What the headers say of them.
+    pub(crate) fn of(bytes: &[u8]) -> Bounds
+        requires { HasHeaders bytes.now }
+        ensures { AreBounds bytes.now result }
+    {
+        let directory = relocs(bytes);
+        Bounds {
+            size: image_size(bytes),
+            directory,
+            end: directory.base as usize + directory.length as usize,
+        }
+    }
 }
 
 /// The head of the block at a place, where there is one.
-pub(crate) fn head_at(bytes: &[u8], cursor: &mut Cursor, at: usize) -> Option<Head>
+pub(crate) fn head_at(bytes: &[u8], cursor: &mut Cursor, end: usize, at: usize) -> Option<Head>
     requires laid_out { IsLaidOut bytes.now }
+    requires end { end ≡ directory_end bytes.now }
     requires fits { directory_fits bytes.now ≡ true }
-    requires near { at ≤ directory_end_told bytes.now }
+    requires near { at ≤ end }
     requires ready { IsReady bytes.now cursor.old at }
     ensures head { MatchOption result (is_block bytes.now at ≡ false) (IsHead bytes.now at) }
     ensures ready { IsReady bytes.now cursor.new (at + 8) }
 {
-    if directory_end(bytes) - at < HEAD_BYTES {
+    if end - at < HEAD_BYTES {
         return None;
     }
     let page = cursor.double(bytes, at);
@@ -53,19 +69,25 @@ pub(crate) fn head_at(bytes: &[u8], cursor: &mut Cursor, at: usize) -> Option<He
 }
 
 /// Whether so many entries pass that begin at a place, in a block for this page; linear in them.
-fn entries_pass(bytes: &[u8], cursor: &mut Cursor, page: u32, at: usize, count: usize) -> bool
+fn entries_pass(
+    bytes: &[u8],
+    cursor: &mut Cursor,
+    bounds: &Bounds,
+    page: u32,
+    at: usize,
+    count: usize,
+) -> bool
     requires laid_out { IsLaidOut bytes.now }
+    requires bounds { AreBounds bytes.now bounds.now }
     requires ready { IsReady bytes.now cursor.old at }
     requires within { at + 2 * count ≤ image_size_told bytes.now }
     ensures passes { result
         ≡ list_all (fixup_passes (image_size_told bytes.now) (relocs_of bytes.now)) (fixups_from (plain_form bytes.now) page at count) }
     ensures ready { IsReady bytes.now cursor.new (at + 2 * count) }
 {
-    let size = image_size(bytes);
-    let directory = relocs(bytes);
     for k in 0..count {
         let word = cursor.word(bytes, at + 2 * k);
-        if !Fixup::of(page, word).passes(size, &directory) {
+        if !Fixup::of(page, word).passes(bounds.size, &bounds.directory) {
             return false;
         }
     }
@@ -82,8 +104,9 @@ fn size_fits(at: usize, size: usize, end: usize) -> bool
 }
 
 /// Whether the block at a place passes, which begins with this head; linear in it.
-fn block_passes(bytes: &[u8], cursor: &mut Cursor, at: usize, head: &Head) -> bool
+fn block_passes(bytes: &[u8], cursor: &mut Cursor, bounds: &Bounds, at: usize, head: &Head) -> bool
     requires laid_out { IsLaidOut bytes.now }
+    requires bounds { AreBounds bytes.now bounds.now }
     requires fits { directory_fits bytes.now ≡ true }
     requires head { IsHead bytes.now at head.now }
     requires ready { IsReady bytes.now cursor.old (at + 8) }
@@ -91,12 +114,13 @@ fn block_passes(bytes: &[u8], cursor: &mut Cursor, at: usize, head: &Head) -> bo
     ensures ready { OnTrue result (IsReady bytes.now cursor.new (at + head.now.size)) }
 {
     let size = head.size as usize;
-    if !size_fits(at, size, directory_end(bytes)) {
+    if !size_fits(at, size, bounds.end) {
         return false;
     }
     entries_pass(
         bytes,
         cursor,
+        bounds,
         head.page,
         at + HEAD_BYTES,
         (size - HEAD_BYTES) / 2,
@@ -109,13 +133,14 @@ pub(crate) fn relocs_pass(bytes: &[u8]) -> bool
     ensures passes { OnTrue result (AreRead bytes.now) }
     ensures fails { OnFalse result (AreRefused bytes.now) }
 {
-    if directory_end(bytes) > image_size(bytes) as usize {
+    let bounds = Bounds::of(bytes);
+    if bounds.end > bounds.size as usize {
         return false;
     }
     let mut cursor = Cursor::new(bytes);
-    let mut at = relocs(bytes).base as usize;
-    while let Some(head) = head_at(bytes, &mut cursor, at) {
-        if !block_passes(bytes, &mut cursor, at, &head) {
+    let mut at = bounds.directory.base as usize;
+    while let Some(head) = head_at(bytes, &mut cursor, bounds.end, at) {
+        if !block_passes(bytes, &mut cursor, &bounds, at, &head) {
             return false;
         }
         at += head.size as usize;

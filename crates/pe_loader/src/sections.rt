@@ -2,13 +2,13 @@
 ghost use Rattle.std.specs.Prelude.{◌≡◌, ◌↔◌, ◌+◌, ◌*◌, ◌≤◌, ◌<◌, ◌&&◌, not, [], ◌∷◌, length, None, OnOk, IfErr, IsTrue};
 ghost use Rattle.std.specs.List.{list_any};
 ghost use Rattle.mm_base.specs.Checks.{first_failing};
-ghost use Rattle.pe_loader.specs.Headers.{section_at as section_place, optional_at as optional_place, part_count as part_count_told, FailsFirst};
+ghost use Rattle.pe_loader.specs.Headers.{section_at as section_place, table_at as table_place, part_count as part_count_told, FailsFirst};
 ghost use Rattle.pe_loader.specs.Sections.{part_at as part_told, rights_of, range_of as range_told, lies_in as is_within, overlaps_first as shares_with_first, section_checks, holds_code as has_code_at, parts, entry_passes as entry_is_fit, entry_check};
 ghost use Rattle.pe_loader.specs.Layout.{HasHeaders, EndBefore, AreInOrder};
 
 use crate::checking::check;
 use crate::header::{
-    EBC, field, headers_size, image_size, machine, optional_at, part_count, section_at,
+    EBC, field, headers_size, image_size, machine, optional_at, part_count, section_at, table_at,
 };
 use crate::numbers::u32_at;
 use crate::{Part, PeFault, PeKind};
@@ -27,14 +27,14 @@ fn rights(bits: u32) -> u8
     read + write + execute
 }
 
-/// A section by its entry of the table.
+/// A section by its entry of the table, which stands at `table`.
 #[tactic(auto, unfolding(crate::specs::Sections::part_at))]
-pub(crate) fn part_at(bytes: &[u8], k: u16) -> Part
-    requires room { optional_place bytes.now + 112 ≤ length bytes.now }
+pub(crate) fn part_at(bytes: &[u8], table: usize, k: u16) -> Part
+    requires table { table ≡ table_place bytes.now }
     requires entry { section_place bytes.now k + 40 ≤ length bytes.now }
     ensures { result ≡ part_told bytes.now k }
 {
-    let entry = section_at(bytes, k);
+    let entry = table + 40 * k as usize;
     let raw_size = u32_at(bytes, entry + 16);
     let virtual_size = u32_at(bytes, entry + 8);
     let length = if virtual_size == 0 {
@@ -77,8 +77,9 @@ fn overlaps_first(bytes: &[u8], part: &Part, count: u16) -> bool
     requires within { count ≤ part_count_told bytes.now }
     ensures { result ≡ shares_with_first bytes.now part.now count }
 {
+    let table = table_at(bytes);
     for k in 0..count {
-        if range_of(&part_at(bytes, k)).overlaps(&range_of(part)) {
+        if range_of(&part_at(bytes, table, k)).overlaps(&range_of(part)) {
             return true;
         }
     }
@@ -115,9 +116,10 @@ pub(crate) fn check_sections(bytes: &[u8]) -> Result<(), PeFault>
     ensures ok { OnOk result (first_failing (section_checks bytes.now) ≡ None) }
     ensures fault { IfErr result (FailsFirst (section_checks bytes.now)) }
 {
+    let table = table_at(bytes);
     let mut highest = 0;
     for k in 0..part_count(bytes) {
-        let part = part_at(bytes, k);
+        let part = part_at(bytes, table, k);
         let passes = section_passes(bytes, &part, k, highest);
         check(passes, section_at(bytes, k) as u32, PeKind::Section)?;
         highest = highest.max(part.at + part.length);
@@ -139,8 +141,9 @@ fn is_code(bytes: &[u8], place: u32) -> bool
     requires { HasHeaders bytes.now }
     ensures { result ≡ list_any (has_code_at place) (parts bytes.now) }
 {
+    let table = table_at(bytes);
     for k in 0..part_count(bytes) {
-        if holds_code(place, &part_at(bytes, k)) {
+        if holds_code(place, &part_at(bytes, table, k)) {
             return true;
         }
     }
@@ -179,9 +182,10 @@ pub(crate) fn are_in_order(bytes: &[u8]) -> bool
     requires headers { HasHeaders bytes.now }
     ensures { IsTrue result ↔ AreInOrder bytes.now }
 {
+    let table = table_at(bytes);
     for k in 1..part_count(bytes) {
-        let before = part_at(bytes, k - 1);
-        if before.at as u64 + before.length as u64 > part_at(bytes, k).at as u64 {
+        let before = part_at(bytes, table, k - 1);
+        if before.at as u64 + before.length as u64 > part_at(bytes, table, k).at as u64 {
             return false;
         }
     }

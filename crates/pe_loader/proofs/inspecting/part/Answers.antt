@@ -1,12 +1,10 @@
-use Rattle.std.proofs.Common.{◌+◌, ap, arith}
-use Rattle.mm_base.specs.declared.image.Image.{Image}
-use Rattle.pe_loader.specs.Images.{image_of}
+use Rattle.std.proofs.Common.{arith}
 use Rattle.pe_loader.proofs.SectionLemmas.{entry_in}
-use Rattle.pe_loader.proofs.ImageLemmas.{laid_out_of, parts_of}
+use Rattle.pe_loader.proofs.ImageLemmas.{laid_out_of, parts_of, table_of}
 use Rattle.pe_loader.proofs.inspecting.part.Goals as goal
 
-pub part_at-requires-clause-room : goal.part_at-requires-clause-room
-part_at-requires-clause-room c = (laid_out_of c.args.bytes.now c.requires.image.1.passes).headers.room
+pub part_at-requires-clause-table : goal.part_at-requires-clause-table
+part_at-requires-clause-table c = table_of c.args.bytes.now c.args.image.now c.requires.image.1.says
 
 pub part_at-requires-clause-entry : goal.part_at-requires-clause-entry
 part_at-requires-clause-entry c =

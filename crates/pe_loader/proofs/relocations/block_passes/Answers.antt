@@ -1,9 +1,9 @@
-use Rattle.std.proofs.Common.{◌≡◌, ◌&&◌, ◌∙◌, ◌+◌, ◌-◌, ◌/◌, ◌%◌, Bool, true, false, eqb, leb, sym, ap, arith}
+use Rattle.std.proofs.Common.{◌&&◌, ◌∙◌, ◌+◌, ◌-◌, ◌/◌, sym, ap, arith}
 use Rattle.std.specs.List.{list_all}
 use Rattle.std.proofs.lemmas.Bool.{leb-true}
 use Rattle.pe_loader.specs.Headers.{image_size, relocs_of}
 use Rattle.pe_loader.specs.Forms.{plain_form}
-use Rattle.pe_loader.specs.Fixups.{fixup_passes, fixups_from, directory_end}
+use Rattle.pe_loader.specs.Fixups.{fixup_passes, fixups_from}
 use Rattle.pe_loader.proofs.BlockLemmas.{block_room, passes_by_head, sized_by}
 use Rattle.pe_loader.proofs.relocations.block_passes.Goals as goal
 
@@ -15,7 +15,7 @@ pub returns-then-not-size_fits-clause-passes : goal.returns-then-not-size_fits-c
 returns-then-not-size_fits-clause-passes c =
     let bytes = c.args.bytes.now in
     let head = c.args.head.now in
-    let sized = sized_by c.args.at head.size _ _ _ _ c.directory_end.ensures c.size_fits.ensures c.if-not-size_fits.true in
+    let sized = sized_by c.args.at head.size _ _ _ _ c.requires.bounds.end c.size_fits.ensures c.if-not-size_fits.true in
     sym (passes_by_head bytes c.args.at head c.requires.head
     ∙ ap (λ fits. fits && list_all (fixup_passes (image_size bytes) (relocs_of bytes)) (fixups_from (plain_form bytes) head.page (c.args.at + 8) ((head.size - 8) / 2))) sized)
 
@@ -23,7 +23,7 @@ pub returns-clause-passes : goal.returns-clause-passes
 returns-clause-passes c =
     let bytes = c.args.bytes.now in
     let head = c.args.head.now in
-    let sized = sized_by c.args.at head.size _ _ _ _ c.directory_end.ensures c.size_fits.ensures c.if-not-size_fits.false in
+    let sized = sized_by c.args.at head.size _ _ _ _ c.requires.bounds.end c.size_fits.ensures c.if-not-size_fits.false in
     c.entries_pass.ensures.passes
     ∙ sym (passes_by_head bytes c.args.at head c.requires.head
     ∙ ap (λ fits. fits && list_all (fixup_passes (image_size bytes) (relocs_of bytes)) (fixups_from (plain_form bytes) head.page (c.args.at + 8) ((head.size - 8) / 2))) sized)

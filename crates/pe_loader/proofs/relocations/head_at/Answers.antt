@@ -2,8 +2,8 @@ use Rattle.std.proofs.Common.{arith}
 use Rattle.pe_loader.proofs.BlockLemmas.{no_room, no_size, is_head}
 use Rattle.pe_loader.proofs.relocations.head_at.Goals as goal
 
-pub returns-then-directory_end-at-lt-HEAD_BYTES-clause-head : goal.returns-then-directory_end-at-lt-HEAD_BYTES-clause-head
-returns-then-directory_end-at-lt-HEAD_BYTES-clause-head c =
+pub returns-then-end-at-lt-HEAD_BYTES-clause-head : goal.returns-then-end-at-lt-HEAD_BYTES-clause-head
+returns-then-end-at-lt-HEAD_BYTES-clause-head c =
     no_room c.args.bytes.now c.args.at (omega arith)
 
 pub returns-then-size-eq0-clause-head : goal.returns-then-size-eq0-clause-head

@@ -1,5 +1,5 @@
-use Rattle.std.proofs.Common.{◌+◌, ◌∙◌, sym, arith}
-use Rattle.pe_loader.proofs.BlockLemmas.{walked_more, walked_all, walked_to_bad, size_within}
+use Rattle.std.proofs.Common.{sym, arith}
+use Rattle.pe_loader.proofs.BlockLemmas.{walked_more, walked_all, size_within}
 use Rattle.pe_loader.proofs.relocations.relocs_pass.Goals as goal
 
 pub loop-head-smaller : goal.loop-head-smaller

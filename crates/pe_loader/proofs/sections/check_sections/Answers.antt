@@ -1,4 +1,4 @@
-use Rattle.std.proofs.Common.{◌≡◌, ◌∙◌, ◌<◌, ◌+◌, ◌≤◌, ℕ, sym, ap, not, true, ◌&&◌, arith, rules, below_more}
+use Rattle.std.proofs.Common.{◌≡◌, ◌∙◌, ◌+◌, ◌≤◌, sym, ap, not, true, ◌&&◌, arith, rules, below_more}
 use Rattle.mm_base.specs.declared.image.Part.{Part}
 use Rattle.pe_loader.specs.Headers.{FailsFirst}
 use Rattle.pe_loader.specs.Sections.{part_at, lies_in, overlaps_first, section_checks, section_check}

@@ -1,5 +1,4 @@
-use Rattle.std.proofs.Common.{◌≡◌, ℕ, ◌<◌, ◌≤◌, true}
-use Rattle.pe_loader.specs.Headers.{image_size}
+use Rattle.std.proofs.Common.{◌≡◌, ℕ, ◌<◌, true}
 use Rattle.pe_loader.specs.Sections.{section_check}
 use Rattle.pe_loader.specs.Layout.{EndBefore}
 use Rattle.pe_loader.proofs.sections.check_sections.Given as goal

@@ -1,4 +1,4 @@
-use Rattle.std.proofs.Common.{ℕ, ◌+◌, ◌∙◌, sym, arith}
+use Rattle.std.proofs.Common.{◌∙◌, sym, arith}
 use Rattle.std.proofs.lemmas.Bool.{le-ltb}
 use Rattle.pe_loader.proofs.SectionLemmas.{behind_all}
 use Rattle.pe_loader.proofs.sections.overlaps_earlier.Goals as goal

@@ -1,0 +1,10 @@
+use Rattle.pe_loader.proofs.ImageLemmas.{either, never_both, one_image, one_fault}
+use Rattle.pe_loader.proofs.laws.image_or_fault.Goals as goal
+
+pub returns : goal.returns
+returns c = record {
+  either = λ bytes small. either bytes;
+  never_both = never_both;
+  one_image = one_image;
+  one_fault = one_fault;
+}

@@ -1,0 +1,16 @@
+use Rattle.std.proofs.Common.{◌≡◌, ◌+◌, ◌-◌, ◌*◌, true, fold}
+use Rattle.std.specs.List.{list_all}
+use Rattle.pe_loader.specs.Headers.{image_size, relocs_of}
+use Rattle.pe_loader.specs.Forms.{plain_form}
+use Rattle.pe_loader.specs.Fixups.{fixup_passes, fixups_from}
+use Rattle.pe_loader.specs.Loading.{fixed}
+use Rattle.pe_loader.specs.Reading.{IsReady}
+use Rattle.pe_loader.proofs.placing.apply_entries.Given as goal
+
+abbrev pub invariant-loop-k : goal.invariant-loop-k
+invariant-loop-k l = record {
+  ready : IsReady l.bytes l.cursor (l.at + 2 * l.k);
+  pass : list_all (fixup_passes (image_size l.bytes) (relocs_of l.bytes)) (fixups_from (plain_form l.bytes) l.page (l.at + 2 * l.k) (l.count - l.k)) ≡ true;
+  rest : fold (fixed l.difference) l.out (fixups_from (plain_form l.bytes) l.page (l.at + 2 * l.k) (l.count - l.k))
+      ≡ fold (fixed l.difference) l.fn.out (fixups_from (plain_form l.bytes) l.page l.at l.count);
+}
