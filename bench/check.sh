@@ -2,8 +2,8 @@
 # What `check` costs the built program (its path is the first argument), over volumes of 16 MB and of 4 MB: "bodies" has files of
 # 16 KB whose bytes are all summed, "empty files" has files of 24 bytes, and "sections" has one driver file of sections of 4 bytes.
 # For each it prints the best of 5 times, MB (1,000,000 bytes) a second, peak memory, and beside them what `cat` and `cksum` take for
-# the same file; and then the ratio of a byte of the larger volume to one of the smaller. No time of a start is taken off; it is
-# printed first.
+# the same file; and then the ratio of a byte of the larger volume to one of the smaller, without the time of a run on no bytes, which
+# is printed first.
 set -eu
 program=$(realpath "${1:-$(dirname "$0")/../crates/mm_main/out/mm_main}")
 folder=$(mktemp -d)
@@ -103,10 +103,11 @@ for kind in bodies empty sections; do
         written=$(stat -c %s report)
         echo "$kind, $count: $size bytes, report $written bytes, peak memory $memory KiB, most wanted $(((2 * (size + written) + 40000000) / 1024)) KiB"
         rate check "$program" check
+        byte=$(quotient $((time - start)) "$size" 9)
         if [ -z "$short" ]; then
-            short=$(quotient "$time" "$size" 9)
+            short=$byte
         else
-            echo "  check, ratio a byte: $(quotient "$(quotient "$time" "$size" 9)" "$short" 2)"
+            echo "  check, ratio a byte: $(quotient "$byte" "$short" 2)"
         fi
         rate cat cat
         rate cksum cksum
