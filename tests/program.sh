@@ -45,17 +45,67 @@ printf '%s\n' \
     'lane 0 length 0000000000000020 status 0000000000000000 data 31564d4d01000040800000000000000108000000000000000800010000000000' > version.report
 ends 0 version.report '' "$program" script version.script
 
-usage='mm_main: usage: mm_main script FILE'
+"$top/tests/sample-volume.sh" sample.fd
+printf '%s\n' \
+    'volume 000001c0 ffs2 files 1' \
+    'file 00000048 aaaaaaaa-0000-0000-0000-000000000001 type 0e size 00000174 unread' > sample.report
+ends 0 sample.report '' "$program" check sample.fd
+
+# changed FILE EDIT..: writes the bytes of each edit, PLACE=HEX, over the file's.
+changed() {
+    local file=$1 edit
+    shift
+    for edit in "$@"; do
+        printf "$(printf '%s' "${edit#*=}" | sed 's/../\\x&/g')" | dd of="$file" bs=1 seek="${edit%%=*}" conv=notrunc status=none
+    done
+}
+
+# A volume of 72 bytes without files: the sample's header with another length, checksum and block map.
+head -c 72 sample.fd > empty.fd
+changed empty.fd 32=4800 50=41ed 60=4800
+echo 'volume 00000048 ffs2 files 0' > empty.report
+ends 0 empty.report '' "$program" check empty.fd
+
+usage='mm_main: usage: mm_main script FILE, or mm_main check FILE'
 ends 1 - "$usage" "$program"
 ends 1 - "$usage" "$program" script
 ends 1 - "$usage" "$program" script version.script more
 ends 1 - "$usage" "$program" Script version.script
+ends 1 - "$usage" "$program" check
+ends 1 - "$usage" "$program" check sample.fd more
+ends 1 - "$usage" "$program" Check sample.fd
 ends 1 - "$usage" "$program" --help
-for form in 'serve V' 'serve V S' 'check V' 'boot V' 'live V W' 'gen 0' 'gen 10' 'convert V' 'audit V' 'verify V T'; do
+for form in 'serve V' 'serve V S' 'boot V' 'live V W' 'gen 0' 'gen 10' 'convert V' 'audit V' 'verify V T'; do
     # shellcheck disable=SC2086
     ends 1 - "$usage" "$program" $form
 done
 ends 1 - "$usage" "$program" script "$(printf '\377')"
+
+# damaged BYTES PLACE WHY EDIT..: the first so many bytes of the sample volume, with these edits, are refused at this place.
+damaged() {
+    local bytes=$1 place=$2 why=$3
+    shift 3
+    head -c "$bytes" sample.fd > damaged.fd
+    changed damaged.fd "$@"
+    ends 2 - "mm_main: \"damaged.fd\", byte $place: $why" "$program" check damaged.fd
+}
+short='a volume header has at least 64 bytes, and there are fewer'
+damaged 0 0x0 "$short"
+damaged 63 0x0 "$short"
+header_length="the volume header's length is below 64, odd, or over the length of the file"
+damaged 71 0x30 "$header_length"
+damaged 448 0x30 "$header_length" 48=3e
+damaged 448 0x30 "$header_length" 48=49
+length="the volume's length is below its header's, or over the length of the file, which may have been cut"
+damaged 72 0x20 "$length"
+damaged 447 0x20 "$length"
+damaged 448 0x28 "a volume has its signature here, _FVH, and this isn't it" 40=00
+damaged 448 0x32 "the volume header's 16-bit words don't sum up to 0" 50=00
+damaged 448 0x37 "the volume header's revision isn't 2" 51=eb 55=01
+damaged 448 0x10 "the volume's file system is neither FFS2 nor FFS3" 16=00000000000000000000000000000000 50=8263
+damaged 448 0x34 "the extended header that this points to has fewer than 20 bytes, or leads past the volume's end" 50=91e8c001
+damaged 448 0x48 "the bytes of the file header that stands here don't sum up to 0" 88=00
+damaged 448 0x48 "the size of the file that stands here is below its header's or leads past the volume's end, or it is a large file where none may be" 88=32 92=1700
 
 # refused TEXT LINE WHY: a script of this text is refused at this line.
 refused() {
@@ -74,14 +124,27 @@ ends 4 - 'mm_main: "" could not be opened or read' "$program" script ''
 mkdir folder.script
 ends 4 - 'mm_main: "folder.script" could not be opened or read' "$program" script folder.script
 
+ends 4 - 'mm_main: "nowhere.fd" could not be opened or read' "$program" check nowhere.fd
+ends 4 - 'mm_main: "" could not be opened or read' "$program" check ''
+mkdir folder.fd
+ends 4 - 'mm_main: "folder.fd" could not be opened or read' "$program" check folder.fd
+
 if [ -e /dev/full ]; then
     ends 5 - 'mm_main: standard output could not be written' full "$program" script version.script
+    ends 5 - 'mm_main: standard output could not be written' full "$program" check sample.fd
 fi
 
 head -c 4194305 /dev/zero | tr '\0' '\n' > long.script
 ends 6 - 'mm_main: "long.script" has more than 4194304 bytes' "$program" script long.script
 head -c $((4194304 - $(wc -c < version.script))) /dev/zero | tr '\0' '\n' | cat version.script - > whole.script
 ends 0 version.report '' "$program" script whole.script
+
+head -c 16777217 /dev/zero > long.fd
+ends 6 - 'mm_main: "long.fd" has more than 16777216 bytes' "$program" check long.fd
+head -c 16777216 /dev/zero > zeros.fd
+ends 2 - "mm_main: \"zeros.fd\", byte 0x28: a volume has its signature here, _FVH, and this isn't it" "$program" check zeros.fd
+head -c $((16777216 - 448)) /dev/zero | cat sample.fd - > whole.fd
+ends 0 sample.report '' "$program" check whole.fd
 
 echo "program.sh: $passed passed, $failed failed"
 [ "$failed" = 0 ]

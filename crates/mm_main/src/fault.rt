@@ -1,13 +1,19 @@
 //! What the program says on standard error where a run did not end well.
-use mm_base::TextKind;
-use mm_run::{MOST_SCRIPT_BYTES, Status, Which};
+use mm_base::{TextKind, VolumeKind};
+use mm_run::{BadKind, MOST_SCRIPT_BYTES, MOST_VOLUME_BYTES, Status, Which};
 use thiserror::Error;
 
 /// What was refused, where, and why.
 #[derive(Debug, Drop, Error)]
 pub enum Fault<'a> {
-    #[error("usage: mm_main script FILE")]
+    #[error("usage: mm_main script FILE, or mm_main check FILE")]
     Usage,
+    #[error("{name:?}, byte {at:#x}: {why}")]
+    BadVolume {
+        name: &'a str,
+        at: u32,
+        why: &'static str,
+    },
     #[error("{name:?}, line {line}: {why}")]
     BadText {
         name: &'a str,
@@ -20,24 +26,34 @@ pub enum Fault<'a> {
     },
     #[error("standard output could not be written")]
     Write,
-    #[error("{name:?} has more than {most} bytes", most = MOST_SCRIPT_BYTES)]
+    #[error("{name:?} has more than {most} bytes")]
     TooLong {
         name: &'a str,
+        most: u32,
     },
     #[error("memory was refused")]
     NoMemory,
 }
 
 impl<'a> Fault<'a> {
-    /// What there is to say of a status, where the sources have these names; None where all went well.
-    pub fn of(status: Status, first: &'a str, second: &'a str) -> Option<Fault<'a>> {
+    /// What there is to say of a status, where the words are this command and these names of sources; None where all went
+    /// well.
+    pub fn of(status: Status, command: &str, first: &'a str, second: &'a str) -> Option<Fault<'a>> {
         match status {
             Status::Done => None,
             Status::Usage => Some(Fault::Usage),
+            Status::BadVolume {
+                at,
+                kind: BadKind::Volume(kind),
+            } => Some(Fault::BadVolume {
+                name: first,
+                at,
+                why: why_no_volume(kind),
+            }),
             Status::BadText { line, kind } => Some(Fault::BadText {
                 name: first,
                 line,
-                why: why(kind),
+                why: why_no_script(kind),
             }),
             Status::ReadFault(which) => Some(Fault::Read {
                 name: name_of(which, first, second),
@@ -45,14 +61,39 @@ impl<'a> Fault<'a> {
             Status::WriteFault => Some(Fault::Write),
             Status::TooLong(which) => Some(Fault::TooLong {
                 name: name_of(which, first, second),
+                most: most_bytes(command),
             }),
             Status::NoMemory => Some(Fault::NoMemory),
         }
     }
 }
 
+/// Why a volume is refused at a place.
+fn why_no_volume(kind: VolumeKind) -> &'static str {
+    match kind {
+        VolumeKind::Short => "a volume header has at least 64 bytes, and there are fewer",
+        VolumeKind::Signature => "a volume has its signature here, _FVH, and this isn't it",
+        VolumeKind::HeaderLength => {
+            "the volume header's length is below 64, odd, or over the length of the file"
+        }
+        VolumeKind::HeaderSum => "the volume header's 16-bit words don't sum up to 0",
+        VolumeKind::Revision => "the volume header's revision isn't 2",
+        VolumeKind::FileSystem => "the volume's file system is neither FFS2 nor FFS3",
+        VolumeKind::Length => {
+            "the volume's length is below its header's, or over the length of the file, which may have been cut"
+        }
+        VolumeKind::ExtHeader => {
+            "the extended header that this points to has fewer than 20 bytes, or leads past the volume's end"
+        }
+        VolumeKind::FileSum => "the bytes of the file header that stands here don't sum up to 0",
+        VolumeKind::FileSize => {
+            "the size of the file that stands here is below its header's or leads past the volume's end, or it is a large file where none may be"
+        }
+    }
+}
+
 /// Why a line of a script is refused.
-fn why(kind: TextKind) -> &'static str {
+fn why_no_script(kind: TextKind) -> &'static str {
     match kind {
         TextKind::Unknown => {
             "its first word begins no line: a line is lanes, cell, handler, poke, fill, ring, step or run"
@@ -65,6 +106,14 @@ fn why(kind: TextKind) -> &'static str {
             "one of its words can't be read as the number, bytes or GUID that stand there",
         TextKind::Range => "a number is out of its range, or names what isn't there",
         TextKind::Missing => "the script has no line that says anything",
+    }
+}
+
+/// The most bytes that the source of this command may have.
+fn most_bytes(command: &str) -> u32 {
+    match command {
+        "check" => MOST_VOLUME_BYTES,
+        _ => MOST_SCRIPT_BYTES,
     }
 }
 

@@ -14,15 +14,16 @@ use std::{env, io};
 fn main(rt: HostRuntime) -> ExitCode {
     let words = match words(&rt) {
         Ok(words) => words,
-        Err(status) => return ended(&rt, status, "", ""),
+        Err(status) => return ended(&rt, status, "", "", ""),
     };
+    let command = word(&words, 0);
     let first_name = word(&words, 1);
     let second_name = word(&words, 2);
     let mut first = FileSource::open(&rt, first_name);
     let mut second = FileSource::open(&rt, second_name);
     let mut out = OutSink::new(io::writer(&rt));
     let end = run(rt.alloc(), &words, &mut first, &mut second, &mut out);
-    ended(&rt, end.status, first_name, second_name)
+    ended(&rt, end.status, command, first_name, second_name)
 }
 
 /// The words of the command line, without the program's own name. One that is no text is a faulty command line.
@@ -51,8 +52,8 @@ fn word(words: &Vec<String>, place: usize) -> &str {
 }
 
 /// Says what went wrong, if anything did, and gives the exit status.
-fn ended<R: Eprint>(rt: &R, status: Status, first: &str, second: &str) -> ExitCode {
-    if let Some(fault) = Fault::of(status, first, second) {
+fn ended<R: Eprint>(rt: &R, status: Status, command: &str, first: &str, second: &str) -> ExitCode {
+    if let Some(fault) = Fault::of(status, command, first, second) {
         let _ = eprintln!(rt; "mm_main: {fault}");
     }
     ExitCode::from(status.number())

@@ -11,4 +11,8 @@ mod running;
 #[cfg(test)]
 mod script_texts;
 #[cfg(test)]
+mod volume_runs;
+#[cfg(test)]
+mod volumes;
+#[cfg(test)]
 mod whole_runs;

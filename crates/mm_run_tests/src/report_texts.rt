@@ -119,6 +119,8 @@ fn records_and_registers(rt: HostRuntime) -> Result<(), Fail> {
     entries.join(one(alloc, 25, &[], Saved::ZERO, second)?);
     let lanes = lane_of(alloc, &[25, 0x8000_0000_0000_000e])?;
     let parts = Parts {
+        volume: None,
+        words: None,
         entries: Some(&entries),
         lanes: Some(&lanes),
     };
@@ -181,6 +183,8 @@ fn ends_of_invocations(rt: HostRuntime) -> Result<(), Fail> {
     told.chain = chain_of_ends(alloc)?;
     let entries = one(alloc, 24, &[7; 24], Saved::ZERO, told)?;
     let parts = Parts {
+        volume: None,
+        words: None,
         entries: Some(&entries),
         lanes: None,
     };

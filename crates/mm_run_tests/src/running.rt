@@ -8,12 +8,31 @@ use std::process::Abort;
 /// How many bytes a sink of these tests takes.
 const ROOM: usize = 8_192;
 
+/// The words of a command line.
+pub fn words_of(alloc: Global, all: &[&str]) -> Result<Vec<String>, AllocError> {
+    let mut words = Vec::new(alloc);
+    for word in all {
+        words.push(String::from_str(alloc, word)?)?;
+    }
+    Ok(words)
+}
+
 /// The words `script` and a file's name.
 pub fn script_words(alloc: Global) -> Result<Vec<String>, AllocError> {
-    let mut words = Vec::new(alloc);
-    words.push(String::from_str(alloc, "script")?)?;
-    words.push(String::from_str(alloc, "version.script")?)?;
-    Ok(words)
+    words_of(alloc, &["script", "version.script"])
+}
+
+/// How a run of these words over a source and a sink ended, and whether it handed out no world.
+pub fn ran(
+    alloc: Global,
+    words: &[&str],
+    first: &mut MemorySource,
+    out: &mut MemorySink,
+) -> Result<(Status, bool), NoMemory> {
+    let words = words_of(alloc, words)?;
+    let mut second = source(alloc, b"", &[])?;
+    let end = run(alloc, &words, first, &mut second, out);
+    Ok((end.status, end.world.is_none()))
 }
 
 pub fn source(alloc: Global, script: &[u8], failing: &[u32]) -> Result<MemorySource, NoMemory> {

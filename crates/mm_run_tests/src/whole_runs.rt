@@ -1,8 +1,9 @@
 //! Whole runs over sources and sinks in memory. What is expected was worked out by hand from the definitions.
-use crate::running::{many, refuses, reports, script_words, sink, source};
-use mm_base::{List, TextKind};
-use mm_io::FileSource;
+use crate::running::{many, ran, refuses, reports, script_words, sink, source};
+use mm_base::{List, NoMemory, TextKind};
+use mm_io::{FileSource, Source};
 use mm_run::{Status, Which, run};
+use std::alloc::Global;
 use std::test::Fail;
 
 const VERSION_SCRIPT: &[u8] =
@@ -268,6 +269,49 @@ fn faults_have_their_causes(rt: HostRuntime) -> Result<(), Fail> {
         &[],
         Status::TooLong(Which::First),
     )?;
+    Ok(())
+}
+
+/// Command lines that are no form.
+const NO_FORMS: &[&[&str]] = &[
+    &[],
+    &["script"],
+    &["script", "S", "more"],
+    &["Script", "S"],
+    &["script ", "S"],
+    &["check"],
+    &["check", "V", "more"],
+    &["Check", "V"],
+    &["chec", "V"],
+    &["serve", "V", "S"],
+    &["boot", "V"],
+    &["V"],
+    &["", ""],
+];
+
+/// Whether a run of these words is refused for them: nothing is read of the source, whose first read would fail, and nothing is
+/// written.
+fn is_no_form(alloc: Global, words: &[&str]) -> Result<bool, NoMemory> {
+    let mut first = source(alloc, VERSION_SCRIPT, &[0])?;
+    let mut out = sink(alloc, 4_096, &[])?;
+    let end = ran(alloc, words, &mut first, &mut out)?;
+    Ok(end == (Status::Usage, true) && first.faults() == 0 && out.written().is_empty())
+}
+
+/// How many of these command lines are refused for their words.
+fn refused_forms(alloc: Global) -> Result<usize, NoMemory> {
+    let mut count: usize = 0;
+    for words in NO_FORMS {
+        if is_no_form(alloc, words)? {
+            count = count.wrapping_add(1);
+        }
+    }
+    Ok(count)
+}
+
+#[test]
+fn words_that_are_no_form(rt: HostRuntime) -> Result<(), Fail> {
+    assert_eq!(rt; refused_forms(rt.alloc())?, NO_FORMS.len());
     Ok(())
 }
 

@@ -3,9 +3,9 @@ use super::*;
 use std::alloc::{AllocError, Global};
 use std::test::Fail;
 
-/// What is said of a status, where the sources are called `one` and `two`; nothing where all went well.
-fn said(alloc: Global, status: Status) -> Result<String, AllocError> {
-    match Fault::of(status, "one", "two") {
+/// What is said of a status, where the words are this command, `one` and `two`; nothing where all went well.
+fn said(alloc: Global, command: &str, status: Status) -> Result<String, AllocError> {
+    match Fault::of(status, command, "one", "two") {
         None => Ok(String::new(alloc)),
         Some(fault) => format!(in alloc; "{fault}"),
     }
@@ -15,32 +15,130 @@ fn said(alloc: Global, status: Status) -> Result<String, AllocError> {
 fn names_what_was_refused(rt: HostRuntime) -> Result<(), Fail> {
     let alloc = rt.alloc();
     let expected = [
-        (Status::Done, ""),
-        (Status::Usage, "usage: mm_main script FILE"),
+        ("script", Status::Done, ""),
         (
+            "boot",
+            Status::Usage,
+            "usage: mm_main script FILE, or mm_main check FILE",
+        ),
+        (
+            "script",
             Status::ReadFault(Which::First),
             "\"one\" could not be opened or read",
         ),
         (
+            "check",
             Status::ReadFault(Which::Second),
             "\"two\" could not be opened or read",
         ),
         (
+            "script",
             Status::TooLong(Which::First),
             "\"one\" has more than 4194304 bytes",
         ),
         (
+            "check",
+            Status::TooLong(Which::First),
+            "\"one\" has more than 16777216 bytes",
+        ),
+        (
+            "script",
             Status::BadText {
                 line: 7,
                 kind: TextKind::Range,
             },
             "\"one\", line 7: a number is out of its range, or names what isn't there",
         ),
-        (Status::WriteFault, "standard output could not be written"),
-        (Status::NoMemory, "memory was refused"),
+        (
+            "check",
+            Status::WriteFault,
+            "standard output could not be written",
+        ),
+        ("check", Status::NoMemory, "memory was refused"),
     ];
-    for (status, text) in expected {
-        assert_eq!(rt; said(alloc, status)?.as_str(), text);
+    for (command, status, text) in expected {
+        assert_eq!(rt; said(alloc, command, status)?.as_str(), text);
     }
     Ok(())
+}
+
+/// A place and what a volume is refused for there, and what is said of it.
+type Row = (u32, VolumeKind, &'static str);
+
+const DAMAGED: &[Row] = &[
+    (
+        0,
+        VolumeKind::Short,
+        "\"one\", byte 0x0: a volume header has at least 64 bytes, and there are fewer",
+    ),
+    (
+        40,
+        VolumeKind::Signature,
+        "\"one\", byte 0x28: a volume has its signature here, _FVH, and this isn't it",
+    ),
+    (
+        48,
+        VolumeKind::HeaderLength,
+        "\"one\", byte 0x30: the volume header's length is below 64, odd, or over the length of the file",
+    ),
+    (
+        50,
+        VolumeKind::HeaderSum,
+        "\"one\", byte 0x32: the volume header's 16-bit words don't sum up to 0",
+    ),
+    (
+        55,
+        VolumeKind::Revision,
+        "\"one\", byte 0x37: the volume header's revision isn't 2",
+    ),
+    (
+        16,
+        VolumeKind::FileSystem,
+        "\"one\", byte 0x10: the volume's file system is neither FFS2 nor FFS3",
+    ),
+    (
+        32,
+        VolumeKind::Length,
+        "\"one\", byte 0x20: the volume's length is below its header's, or over the length of the file, which may have been cut",
+    ),
+    (
+        52,
+        VolumeKind::ExtHeader,
+        "\"one\", byte 0x34: the extended header that this points to has fewer than 20 bytes, or leads past the volume's end",
+    ),
+    (
+        72,
+        VolumeKind::FileSum,
+        "\"one\", byte 0x48: the bytes of the file header that stands here don't sum up to 0",
+    ),
+    (
+        16_777_192,
+        VolumeKind::FileSize,
+        "\"one\", byte 0xffffe8: the size of the file that stands here is below its header's or leads past the volume's end, or it is a large file where none may be",
+    ),
+];
+
+fn is_said(alloc: Global, row: &Row) -> bool {
+    let (at, kind, text) = row;
+    let status = Status::BadVolume {
+        at: *at,
+        kind: BadKind::Volume(*kind),
+    };
+    match said(alloc, "check", status) {
+        Ok(line) => line.as_str() == *text,
+        Err(_) => false,
+    }
+}
+
+/// The first kind of which something else is said.
+fn first_wrong(alloc: Global) -> Option<VolumeKind> {
+    DAMAGED
+        .iter()
+        .find(|row| !is_said(alloc, row))
+        .map(|row| row.1)
+}
+
+#[test]
+fn tells_why_a_volume_is_refused(rt: HostRuntime) {
+    assert_eq!(rt; first_wrong(rt.alloc()), None);
 }
