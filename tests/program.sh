@@ -48,7 +48,7 @@ ends 0 version.report '' "$program" script version.script
 "$top/tests/sample-volume.sh" sample.fd
 printf '%s\n' \
     'volume 000001c0 ffs2 files 1' \
-    'file 00000048 aaaaaaaa-0000-0000-0000-000000000001 type 0e size 00000174 unread' > sample.report
+    'file 00000048 aaaaaaaa-0000-0000-0000-000000000001 type 0e size 00000174 driver' > sample.report
 ends 0 sample.report '' "$program" check sample.fd
 
 # changed FILE EDIT..: writes the bytes of each edit, PLACE=HEX, over the file's.

@@ -11,7 +11,7 @@ use std::alloc::Global;
 use std::test::Fail;
 
 /// The word of a driver file that nothing is wrong with.
-const SOUND_DRIVER: &[u8] = b"unread";
+const SOUND_DRIVER: &[u8] = b"driver";
 
 /// The words of a run.
 const CHECK: &[&str] = &["check", "volume.fd"];
