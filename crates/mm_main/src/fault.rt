@@ -1,6 +1,6 @@
 //! What the program says on standard error where a run did not end well.
 use mm_base::{TextKind, VolumeKind};
-use mm_run::{BadKind, MOST_SCRIPT_BYTES, MOST_VOLUME_BYTES, Status, Which};
+use mm_run::{BadKind, Command, Status, Which};
 use thiserror::Error;
 
 /// What was refused, where, and why.
@@ -36,9 +36,14 @@ pub enum Fault<'a> {
 }
 
 impl<'a> Fault<'a> {
-    /// What there is to say of a status, where the words are this command and these names of sources; None where all went
-    /// well.
-    pub fn of(status: Status, command: &str, first: &'a str, second: &'a str) -> Option<Fault<'a>> {
+    /// What there is to say of a status, where the words are of this command, if of any, and the sources have these names; None
+    /// where all went well.
+    pub fn of(
+        status: Status,
+        command: Option<Command>,
+        first: &'a str,
+        second: &'a str,
+    ) -> Option<Fault<'a>> {
         match status {
             Status::Done => None,
             Status::Usage => Some(Fault::Usage),
@@ -61,7 +66,7 @@ impl<'a> Fault<'a> {
             Status::WriteFault => Some(Fault::Write),
             Status::TooLong(which) => Some(Fault::TooLong {
                 name: name_of(which, first, second),
-                most: most_bytes(command),
+                most: command.map_or(0, |command| command.most_bytes()),
             }),
             Status::NoMemory => Some(Fault::NoMemory),
         }
@@ -106,14 +111,6 @@ fn why_no_script(kind: TextKind) -> &'static str {
             "one of its words can't be read as the number, bytes or GUID that stand there",
         TextKind::Range => "a number is out of its range, or names what isn't there",
         TextKind::Missing => "the script has no line that says anything",
-    }
-}
-
-/// The most bytes that the source of this command may have.
-fn most_bytes(command: &str) -> u32 {
-    match command {
-        "check" => MOST_VOLUME_BYTES,
-        _ => MOST_SCRIPT_BYTES,
     }
 }
 

@@ -5,7 +5,7 @@ mod fault;
 
 use fault::Fault;
 use mm_io::{FileSource, OutSink};
-use mm_run::{Status, run};
+use mm_run::{Command, Status, command_of, run};
 use std::alloc::Global;
 use std::process::ExitCode;
 use std::rt::Env;
@@ -14,9 +14,9 @@ use std::{env, io};
 fn main(rt: HostRuntime) -> ExitCode {
     let words = match words(&rt) {
         Ok(words) => words,
-        Err(status) => return ended(&rt, status, "", "", ""),
+        Err(status) => return ended(&rt, status, None, "", ""),
     };
-    let command = word(&words, 0);
+    let command = command_of(words.as_slice());
     let first_name = word(&words, 1);
     let second_name = word(&words, 2);
     let mut first = FileSource::open(&rt, first_name);
@@ -52,7 +52,13 @@ fn word(words: &Vec<String>, place: usize) -> &str {
 }
 
 /// Says what went wrong, if anything did, and gives the exit status.
-fn ended<R: Eprint>(rt: &R, status: Status, command: &str, first: &str, second: &str) -> ExitCode {
+fn ended<R: Eprint>(
+    rt: &R,
+    status: Status,
+    command: Option<Command>,
+    first: &str,
+    second: &str,
+) -> ExitCode {
     if let Some(fault) = Fault::of(status, command, first, second) {
         let _ = eprintln!(rt; "mm_main: {fault}");
     }

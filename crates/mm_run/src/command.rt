@@ -3,10 +3,10 @@ ghost use Rattle.std.specs.Prelude.{◌≡◌};
 ghost use Rattle.mm_run.specs.Command.{command_of as command_of_words, most_bytes as most_of_command};
 
 /// The most bytes that a script may have.
-pub const MOST_SCRIPT_BYTES: u32 = 4_194_304;
+const MOST_SCRIPT_BYTES: u32 = 4_194_304;
 
 /// The most bytes that a volume may have.
-pub const MOST_VOLUME_BYTES: u32 = 16_777_216;
+const MOST_VOLUME_BYTES: u32 = 16_777_216;
 
 /// A command, by the first word of the command line. Each takes one word more, which names its source.
 #[derive(Clone, Copy, Debug, PartialEq, Eq)]
@@ -19,7 +19,7 @@ pub enum Command {
 
 impl Command {
     /// The most bytes that the command's source may have.
-    pub(crate) fn most_bytes(self) -> u32
+    pub fn most_bytes(self) -> u32
         ensures { result ≡ most_of_command self }
     {
         match self {
@@ -30,7 +30,7 @@ impl Command {
 }
 
 /// The command of these words; None where they are no form that is served.
-pub(crate) fn command_of(words: &[String]) -> Option<Command>
+pub fn command_of(words: &[String]) -> Option<Command>
     ensures { result ≡ command_of_words words.now }
 {
     match words {

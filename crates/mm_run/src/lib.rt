@@ -10,6 +10,6 @@ mod script_run;
 mod status;
 mod top_call;
 
-pub use command::{Command, MOST_SCRIPT_BYTES, MOST_VOLUME_BYTES};
+pub use command::{Command, command_of};
 pub use status::{BadKind, Status, Which};
 pub use top_call::{RunEnd, run};

@@ -4,7 +4,7 @@ use std::alloc::{AllocError, Global};
 use std::test::Fail;
 
 /// What is said of a status, where the words are this command, `one` and `two`; nothing where all went well.
-fn said(alloc: Global, command: &str, status: Status) -> Result<String, AllocError> {
+fn said(alloc: Global, command: Option<Command>, status: Status) -> Result<String, AllocError> {
     match Fault::of(status, command, "one", "two") {
         None => Ok(String::new(alloc)),
         Some(fault) => format!(in alloc; "{fault}"),
@@ -15,34 +15,34 @@ fn said(alloc: Global, command: &str, status: Status) -> Result<String, AllocErr
 fn names_what_was_refused(rt: HostRuntime) -> Result<(), Fail> {
     let alloc = rt.alloc();
     let expected = [
-        ("script", Status::Done, ""),
+        (Some(Command::Script), Status::Done, ""),
         (
-            "boot",
+            None,
             Status::Usage,
             "usage: mm_main script FILE, or mm_main check FILE",
         ),
         (
-            "script",
+            Some(Command::Script),
             Status::ReadFault(Which::First),
             "\"one\" could not be opened or read",
         ),
         (
-            "check",
+            Some(Command::Check),
             Status::ReadFault(Which::Second),
             "\"two\" could not be opened or read",
         ),
         (
-            "script",
+            Some(Command::Script),
             Status::TooLong(Which::First),
             "\"one\" has more than 4194304 bytes",
         ),
         (
-            "check",
+            Some(Command::Check),
             Status::TooLong(Which::First),
             "\"one\" has more than 16777216 bytes",
         ),
         (
-            "script",
+            Some(Command::Script),
             Status::BadText {
                 line: 7,
                 kind: TextKind::Range,
@@ -50,11 +50,11 @@ fn names_what_was_refused(rt: HostRuntime) -> Result<(), Fail> {
             "\"one\", line 7: a number is out of its range, or names what isn't there",
         ),
         (
-            "check",
+            Some(Command::Check),
             Status::WriteFault,
             "standard output could not be written",
         ),
-        ("check", Status::NoMemory, "memory was refused"),
+        (Some(Command::Check), Status::NoMemory, "memory was refused"),
     ];
     for (command, status, text) in expected {
         assert_eq!(rt; said(alloc, command, status)?.as_str(), text);
@@ -124,7 +124,7 @@ fn is_said(alloc: Global, row: &Row) -> bool {
         at: *at,
         kind: BadKind::Volume(*kind),
     };
-    match said(alloc, "check", status) {
+    match said(alloc, Some(Command::Check), status) {
         Ok(line) => line.as_str() == *text,
         Err(_) => false,
     }
