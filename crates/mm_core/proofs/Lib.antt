@@ -1,4 +1,5 @@
 pub mod BufferLemmas
+pub mod CatalogLawLemmas
 pub mod CatalogLemmas
 pub mod ChainRunLemmas
 pub mod ContentsLemmas

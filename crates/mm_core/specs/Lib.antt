@@ -1,5 +1,6 @@
 pub mod Buffered
 pub mod Catalog
+pub mod CatalogLaws
 pub mod CommunicateHeader
 pub mod CoreState
 pub mod EntryLaws
