@@ -46,7 +46,7 @@ const MOST_BYTES: u32 = 16_777_216;
 const RELOCATIONS: u32 = 5;
 
 /// Where the PE signature stands.
-pub(crate) fn pe_at(bytes: &[u8]) -> usize
+fn pe_at(bytes: &[u8]) -> usize
     requires { 64 ≤ length bytes.now }
     ensures place { result ≡ pe_place bytes.now }
     ensures few { result < 4294967296 }
