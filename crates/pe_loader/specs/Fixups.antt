@@ -21,14 +21,17 @@ changed_by fixup = record { base = fixup.at; length = if fixup.kind == 3 then 4 
 abbrev pub StaysWithin : ℕ → Fixup → Type 0
 StaysWithin size fixup = (fixup.kind ≡ 0) ⊎ (fixup.at + (changed_by fixup).length ≤ size)
 
--- Whether a fixup of an image of this size and with this directory passes: of kind 0, which does nothing, no place is asked; one of
--- another kind stays in the image, and doesn't touch the directory.
+-- whether there is such a kind of fixup, beside kind 0, which does nothing
+abbrev pub is_known : ℕ → Bool
+is_known kind = (kind == 1) || (kind == 2) || (kind == 3) || (kind == 10)
+
+-- Whether a fixup of an image of this size and with this directory passes: of kind 0 no place is asked; one of another kind stays in
+-- the image, and doesn't touch the directory.
 abbrev pub fixup_passes : ℕ → Range → Fixup → Bool
 fixup_passes size directory fixup =
+    let changed = changed_by fixup in
     (fixup.kind == 0)
-    || (((fixup.kind == 1) || (fixup.kind == 2) || (fixup.kind == 3) || (fixup.kind == 10))
-    && nat_le (fixup.at + (changed_by fixup).length) size
-    && not (overlaps (changed_by fixup) directory))
+    || (is_known fixup.kind && nat_le (changed.base + changed.length) size && not (overlaps changed directory))
 
 -- so many entries one behind another, of a block for this page
 abbrev pub fixups_from : List ℕ → ℕ → ℕ → ℕ → List Fixup

@@ -1,7 +1,7 @@
 -- The headers of an image: PE32+ as UEFI images use it. A DOS header leads to the PE signature, the COFF file header follows it, and
 -- then the optional header and the section table. All numbers stand with the lowest byte first. The order in which they are checked is
 -- this project's own.
-use Rattle.std.specs.Prelude.{◌≡◌, ℕ, ◌+◌, ◌*◌, if◌then◌else◌, ◌==◌, ◌&&◌, ◌||◌, not, nat_le, nat_lt, List, [], ◌∷◌, length, take, drop, Some, codes}
+use Rattle.std.specs.Prelude.{◌≡◌, ℕ, ◌+◌, ◌*◌, Bool, if◌then◌else◌, ◌==◌, ◌&&◌, ◌||◌, not, nat_le, nat_lt, List, [], ◌∷◌, length, take, drop, Some, codes}
 use Rattle.std.specs.Str.{bytes_eq}
 use Rattle.mm_base.specs.Checks.{Check, first_failing}
 use Rattle.mm_base.specs.Numbers.{number_at}
@@ -68,8 +68,20 @@ relocs_of bytes =
     then record { base = number_at bytes (optional_at bytes + 152) 4; length = size }
     else record { base = 0; length = 0 }
 
--- The checks of the headers, in order. The optional header is one of PE32+, has room for its directories, and the section table behind
--- it lies in the file; subsystems 11 and 12 are drivers; the headers span the section table, and lie in the file and in the image.
+-- whether the optional header has room for its directories, and the section table behind it lies in the file
+abbrev pub optional_fits : List ℕ → Bool
+optional_fits bytes =
+    nat_le (112 + 8 * directory_count bytes) (optional_size bytes) && nat_le (table_end bytes) (length bytes)
+
+-- whether the headers span the section table, and lie in the file and in the image
+abbrev pub headers_fit : List ℕ → Bool
+headers_fit bytes =
+    nat_le (table_end bytes) (headers_size bytes)
+    && nat_le (headers_size bytes) (length bytes)
+    && nat_le (headers_size bytes) (image_size bytes)
+
+-- The checks of the headers, in order. The optional header is one of PE32+; subsystems 11 and 12 are those of drivers, of boot services
+-- and of the runtime.
 unfoldable pub header_checks : List ℕ → List (Check PeKind)
 header_checks bytes =
     record { kind = Short; at = 0; passes = nat_le 64 (length bytes) }
@@ -78,10 +90,10 @@ header_checks bytes =
     ∷ record { kind = Signature; at = pe_at bytes; passes = bytes_eq (take 4 (drop (pe_at bytes) bytes)) (0x50 ∷ 0x45 ∷ 0 ∷ 0 ∷ []) }
     ∷ record { kind = Machine; at = pe_at bytes + 4; passes = (machine_of bytes == 0x0ebc) || (machine_of bytes == 0x8664) || (machine_of bytes == 0xaa64) }
     ∷ record { kind = Magic; at = optional_at bytes; passes = magic_of bytes == 0x20b }
-    ∷ record { kind = Optional; at = pe_at bytes + 20; passes = nat_le (112 + 8 * directory_count bytes) (optional_size bytes) && nat_le (table_end bytes) (length bytes) }
+    ∷ record { kind = Optional; at = pe_at bytes + 20; passes = optional_fits bytes }
     ∷ record { kind = Subsystem; at = optional_at bytes + 68; passes = (subsystem_of bytes == 11) || (subsystem_of bytes == 12) }
     ∷ record { kind = Size; at = optional_at bytes + 56; passes = nat_lt 0 (image_size bytes) && nat_le (image_size bytes) 16777216 }
-    ∷ record { kind = Headers; at = optional_at bytes + 60; passes = nat_le (table_end bytes) (headers_size bytes) && nat_le (headers_size bytes) (length bytes) && nat_le (headers_size bytes) (image_size bytes) }
+    ∷ record { kind = Headers; at = optional_at bytes + 60; passes = headers_fit bytes }
     ∷ []
 
 -- the first of these checks that fails is the fault

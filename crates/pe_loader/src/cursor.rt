@@ -163,7 +163,7 @@ impl Cursor {
     }
 
     /// The byte at a place of the plain form.
-    pub(crate) fn byte(&mut self, bytes: &[u8], at: usize) -> u8
+    fn byte(&mut self, bytes: &[u8], at: usize) -> u8
         requires laid_out { IsLaidOut bytes.now }
         requires ready { IsReady bytes.now self.old at }
         requires within { at < image_size_told bytes.now }

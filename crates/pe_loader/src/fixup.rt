@@ -9,8 +9,8 @@ use mm_base::Range;
 /// What an entry of a relocation block says: its kind, and the place that it is for, counted from the image's begin.
 #[derive(Clone, Copy, Debug, PartialEq, Eq)]
 pub(crate) struct Fixup {
-    pub(crate) kind: u8,
-    pub(crate) at: usize,
+    kind: u8,
+    at: usize,
 }
 
 impl Fixup {

@@ -3,7 +3,7 @@ ghost use Rattle.std.specs.Prelude.{◌≡◌, ◌+◌, ◌*◌, ◌≤◌, ◌<
 ghost use Rattle.std.specs.Str.{bytes_eq};
 ghost use Rattle.mm_base.specs.Checks.{first_failing};
 ghost use Rattle.mm_base.specs.Numbers.{number_at as number_there};
-ghost use Rattle.pe_loader.specs.Headers.{pe_at as pe_place, optional_at as optional_place, machine_of as machine_told, part_count as part_count_told, optional_size as optional_size_told, magic_of as magic_told, image_size as image_size_told, headers_size as headers_size_told, subsystem_of as subsystem_told, directory_count as directory_count_told, table_at as table_place, section_at as section_place, table_end as table_end_place, relocs_of as relocs_told, header_checks, FailsFirst};
+ghost use Rattle.pe_loader.specs.Headers.{pe_at as pe_place, optional_at as optional_place, machine_of as machine_told, part_count as part_count_told, optional_size as optional_size_told, magic_of as magic_told, image_size as image_size_told, headers_size as headers_size_told, subsystem_of as subsystem_told, directory_count as directory_count_told, table_at as table_place, section_at as section_place, table_end as table_end_place, relocs_of as relocs_told, optional_fits as has_optional_fit, headers_fit as has_headers_fit, header_checks, FailsFirst};
 ghost use Rattle.pe_loader.specs.Layout.{HasHeaders};
 
 use crate::checking::check;
@@ -46,7 +46,7 @@ const MOST_BYTES: u32 = 16_777_216;
 const RELOCATIONS: u32 = 5;
 
 /// Where the PE signature stands.
-pub(crate) fn pe_at(bytes: &[u8]) -> usize
+fn pe_at(bytes: &[u8]) -> usize
     requires { 64 ≤ length bytes.now }
     ensures place { result ≡ pe_place bytes.now }
     ensures few { result < 4294967296 }
@@ -167,8 +167,7 @@ fn has_known_machine(bytes: &[u8]) -> bool
 /// Whether the optional header has room for its directories, and the section table lies in the file.
 fn optional_fits(bytes: &[u8]) -> bool
     requires { optional_place bytes.now + 112 ≤ length bytes.now }
-    ensures { result
-        ≡ (nat_le (112 + 8 * directory_count_told bytes.now) (optional_size_told bytes.now) && nat_le (table_end_place bytes.now) (length bytes.now)) }
+    ensures { result ≡ has_optional_fit bytes.now }
 {
     let directories = 8 * directory_count(bytes) as usize;
     112 + directories <= optional_size(bytes) as usize
@@ -196,8 +195,7 @@ fn size_fits(bytes: &[u8]) -> bool
 /// Whether the headers span the section table, and lie in the file and in the image.
 fn headers_fit(bytes: &[u8]) -> bool
     requires { optional_place bytes.now + 112 ≤ length bytes.now }
-    ensures { result
-        ≡ (nat_le (table_end_place bytes.now) (headers_size_told bytes.now) && nat_le (headers_size_told bytes.now) (length bytes.now) && nat_le (headers_size_told bytes.now) (image_size_told bytes.now)) }
+    ensures { result ≡ has_headers_fit bytes.now }
 {
     let headers = headers_size(bytes);
     section_at(bytes, part_count(bytes)) <= headers as usize
