@@ -1,5 +1,5 @@
 -- Laws of images: bytes are one image, or have one fault, and not both; and the sections of an image lie in it, apart from one another.
-use Rattle.std.specs.Prelude.{◌≡◌, ◌⊎◌, ℕ, ◌+◌, ◌≤◌, ◌<◌, List, All}
+use Rattle.std.specs.Prelude.{◌≡◌, ◌⊎◌, ℕ, ◌+◌, ◌≤◌, ◌<◌, List}
 use Rattle.mm_base.specs.Range.{Has}
 use Rattle.mm_base.specs.declared.image.Image.{Image}
 use Rattle.mm_base.specs.declared.image.PeFault.{PeFault}
@@ -9,9 +9,7 @@ use Rattle.pe_loader.specs.declared.fixup.Fixup.{Fixup}
 
 -- bytes are an image or have a fault
 abbrev pub ImageOrFault : Type 0
-ImageOrFault =
-    (bytes : List ℕ) → All (λ byte. byte < 256) bytes
-    → ((image : Image) × IsImageOf bytes image) ⊎ ((fault : PeFault) × HasFault bytes fault)
+ImageOrFault = (bytes : List ℕ) → ((image : Image) × IsImageOf bytes image) ⊎ ((fault : PeFault) × HasFault bytes fault)
 
 -- and never both
 abbrev pub NeverBoth : Type 0

@@ -3,7 +3,7 @@ use Rattle.pe_loader.proofs.laws.image_or_fault.Goals as goal
 
 pub returns : goal.returns
 returns c = record {
-  either = λ bytes small. either bytes;
+  either = either;
   never_both = never_both;
   one_image = one_image;
   one_fault = one_fault;
