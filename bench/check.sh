@@ -1,6 +1,8 @@
 #!/usr/bin/env bash
-# What `check` costs the built program (its path is the first argument), over volumes of 16 MB and of 4 MB: "bodies" has files of
-# 16 KB whose bytes are all summed, "empty files" has files of 24 bytes, and "sections" has one driver file of sections of 4 bytes.
+# What `check` costs the built program (its path is the first argument), over volumes of 10 to 16 MB and of a quarter of that: "bodies"
+# has files of 16 KB whose bytes are all summed, "empty" has files of 24 bytes, "sections" has one driver file of sections of 4 bytes,
+# "fixups" has driver files with images of 1,000 fixups each, and "tables" ones with images of 1,000 sections each. "reversed" has one
+# image whose table has the last section first; its smaller volume has a quarter of the sections, and so its ratio shows the square.
 # For each it prints the best of 5 times, MB (1,000,000 bytes) a second, peak memory, and beside them what `cat` and `cksum` take for
 # the same file; and then the ratio of a byte of the larger volume to one of the smaller, without the time of a run on no bytes, which
 # is printed first.
@@ -10,7 +12,7 @@ folder=$(mktemp -d)
 trap 'rm -rf "$folder"' EXIT
 cd "$folder"
 
-# volume KIND COUNT FILE: writes a volume with so many files or sections.
+# volume KIND COUNT FILE: writes a volume with so many files, or with one file of so many sections.
 volume() {
     python3 - "$@" << 'END'
 import struct
@@ -35,14 +37,54 @@ def header(ffs3, length, checksum):
     """The header of a volume of so many bytes."""
     return bytes(16) + (FFS3 if ffs3 else FFS2) + struct.pack("<QIIHHHBB", length, 0x4856465f, 0x800, 72, checksum, 0, 0, 2) + bytes(16)
 
+def image(parts, relocations):
+    """An image of EFI byte code of parts, (address, bytes) in the table's order, with relocations at an address."""
+    table = 0x40 + 24 + 160
+    headers = table + 40 * len(parts)
+    size = max(at + len(held) for at, held in parts)
+    entry = next(at for at, _ in parts if at % 2 == 0)
+    optional = struct.pack("<H14xI36xII", 0x20b, entry, size, headers)
+    optional += struct.pack("<4xH38xI40xII", 11, 6, *relocations)
+    made = b"MZ" + bytes(58) + struct.pack("<I", 0x40)
+    made += b"PE\0\0" + struct.pack("<HH12xHH", 0x0ebc, len(parts), 160, 0) + optional
+    raw = headers
+    for at, held in parts:
+        made += struct.pack("<8xIIII12xI", len(held), at, len(held), raw, 0x60000020)
+        raw += len(held)
+    return made + b"".join(held for _, held in parts)
+
+def driver(number, image):
+    """A driver file with this image, with the expression TRUE in front."""
+    body = b"\x06\0\0\x1c\x06\x08\0\0"
+    return file(number, 0x0e, 1, body + b"\xff\xff\xff\x10" + struct.pack("<I", len(image) + 8) + image, large=True)
+
+def block(page, count):
+    """A block of relocations with so many fixups of kind 10, one behind the other."""
+    return struct.pack("<II", page, 8 + 2 * count) + b"".join(struct.pack("<H", 0xa000 + 8 * k) for k in range(count))
+
+def fixed():
+    """An image with 1,000 fixups in two pages."""
+    blocks = block(0x1000, 512) + block(0x2000, 488)
+    return image([(0x1000, bytes(8_000)), (0x2f40, blocks)], (0x2f40, len(blocks)))
+
+def parted(count, order):
+    """An image of so many sections of 16 bytes, without relocations."""
+    return image([(0x1000000 - 16 * count + 16 * k, bytes(16)) for k in range(count)][::order], (0, 0))
+
 if kind == "bodies":
     body = bytes((k * k + 7 * k) & 0xff for k in range(16_000))
     files = b"".join(file(k, 0x0e, 0x40, body) for k in range(count))
 elif kind == "empty":
     files = b"".join(file(k, 0x07, 0, b"") for k in range(count))
+elif kind == "fixups":
+    files = b"".join(driver(k, fixed()) for k in range(count))
+elif kind == "tables":
+    files = b"".join(driver(k, parted(1000, 1)) for k in range(count))
+elif kind == "reversed":
+    files = driver(1, parted(count, -1))
 else:
     files = file(1, 0x0e, 1, b"\x04\0\0\x19" * count, large=True)
-ffs3 = kind == "sections"
+ffs3 = kind not in ["bodies", "empty"]
 length = 72 + len(files)
 total = sum(struct.unpack("<36H", header(ffs3, length, 0)))
 with open(name, "wb") as out:
@@ -83,11 +125,14 @@ for _ in 1 2 3 4 5; do
 done
 echo "no bytes: $start us"
 
-for kind in bodies empty sections; do
+for kind in bodies empty sections fixups tables reversed; do
     case $kind in
     bodies) counts='250 1000' ;;
     empty) counts='125000 500000' ;;
     sections) counts='1000000 4000000' ;;
+    fixups) counts='250 1000' ;;
+    tables) counts='70 280' ;;
+    reversed) counts='1000 4000' ;;
     esac
     short=
     for count in $counts; do
@@ -95,11 +140,19 @@ for kind in bodies empty sections; do
         size=$(stat -c %s sample.fd)
         memory=$(/usr/bin/time -f %M "$program" check sample.fd 2>&1 > report)
         lines=$(wc -l < report)
-        [ "$kind" = sections ] && wanted=2 || wanted=$((count + 1))
+        case $kind in sections | reversed) wanted=2 ;; *) wanted=$((count + 1)) ;; esac
         if [ "$lines" != "$wanted" ]; then
             echo "$kind: not $wanted lines" >&2
             exit 1
         fi
+        case $kind in
+        fixups | tables | reversed)
+            if [ "$(grep -c ' driver$' report)" != $((wanted - 1)) ]; then
+                echo "$kind: not all drivers are sound" >&2
+                exit 1
+            fi
+            ;;
+        esac
         written=$(stat -c %s report)
         echo "$kind, $count: $size bytes, report $written bytes, peak memory $memory KiB, most wanted $(((2 * (size + written) + 40000000) / 1024)) KiB"
         rate check "$program" check

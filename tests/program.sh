@@ -66,6 +66,21 @@ changed empty.fd 32=4800 50=41ed 60=4800
 echo 'volume 00000048 ffs2 files 0' > empty.report
 ends 0 empty.report '' "$program" check empty.fd
 
+# listed WORDS EDIT..: the sample volume with these edits is listed, and its file is taken for this.
+listed() {
+    local words=$1
+    shift
+    cp sample.fd changed.fd
+    changed changed.fd "$@"
+    sed "s/driver\$/$words/" sample.report > changed.report
+    ends 0 changed.report '' "$program" check changed.fd
+}
+listed native 176=6486
+listed 'refused pe machine at 00000044' 176=0000
+listed 'refused pe subsystem at 0000009c' 264=0a
+listed 'refused depex empty' 100=08
+listed 'refused depex noend' 101=06
+
 usage='mm_main: usage: mm_main script FILE, or mm_main check FILE'
 ends 1 - "$usage" "$program"
 ends 1 - "$usage" "$program" script

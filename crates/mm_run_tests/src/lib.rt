@@ -3,7 +3,19 @@
 #![tactic(auto)]
 
 #[cfg(test)]
+mod checks;
+#[cfg(test)]
+mod driver_words;
+#[cfg(test)]
+mod drivers;
+#[cfg(test)]
+mod expression_words;
+#[cfg(test)]
+mod file_words;
+#[cfg(test)]
 mod handler_runs;
+#[cfg(test)]
+mod image_words;
 #[cfg(test)]
 mod report_texts;
 #[cfg(test)]

@@ -61,7 +61,7 @@ const IMAGE_HEADER: Layout = Layout {
 };
 
 /// An image of EFI byte code with one section, whose code registers a handler for a GUID behind it.
-const IMAGE: Layout = Layout {
+pub const IMAGE: Layout = Layout {
     length: 336,
     pieces: &[
         (0, b"MZ"),
@@ -175,6 +175,7 @@ pub const COMPRESSED_BEHIND: &[Layout] = &[GUID_DEFINED_SECTION, COMPRESSED_SECT
 pub const GUID_DEFINED: &[Layout] = &[GUID_DEFINED_SECTION, EXPRESSION, IMAGE_HEADER, IMAGE];
 
 /// A file that goes into a volume. `off` is added to the right file checksum: 0 leaves the body sound.
+#[derive(Drop)]
 pub struct Part {
     /// The name, as it is stored.
     pub name: &'static [u8],
@@ -299,14 +300,32 @@ fn file_sum(part: &Part, body: &[u8]) -> u8 {
 }
 
 /// Puts a file behind others, and what is erased up to the next one.
-fn put_file(files: &mut Bytes, alloc: Global, part: &Part) -> Result<(), NoMemory> {
+fn put_part(files: &mut Bytes, alloc: Global, part: &Part) -> Result<(), NoMemory> {
     let body = joined(alloc, part.body)?;
+    put_file(files, alloc, part, body.as_slice())
+}
+
+/// Puts files behind others.
+pub fn put_parts(files: &mut Bytes, alloc: Global, parts: &[Part]) -> Result<(), NoMemory> {
+    for part in parts {
+        put_part(files, alloc, part)?;
+    }
+    Ok(())
+}
+
+/// Puts a file behind others, whose body is given, and what is erased up to the next one.
+pub fn put_file(
+    files: &mut Bytes,
+    alloc: Global,
+    part: &Part,
+    body: &[u8],
+) -> Result<(), NoMemory> {
     let blank = file_header(alloc, part, body.len(), 0, 0, 0)?;
     let header_sum = 0u8.wrapping_sub(sum_of_bytes(blank.as_slice()));
-    let file_sum = file_sum(part, body.as_slice());
+    let file_sum = file_sum(part, body);
     let header = file_header(alloc, part, body.len(), header_sum, file_sum, 0xf8)?;
     files.extend(header.as_slice())?;
-    files.extend(body.as_slice())?;
+    files.extend(body)?;
     for _ in 0..(8 - files.len() % 8) % 8 {
         files.push(0xff)?;
     }
@@ -316,13 +335,16 @@ fn put_file(files: &mut Bytes, alloc: Global, part: &Part) -> Result<(), NoMemor
 /// A volume of these files, without a block map.
 pub fn volume_of(alloc: Global, ffs3: bool, parts: &[Part]) -> Result<Bytes, NoMemory> {
     let mut files = List::new(alloc);
-    for part in parts {
-        put_file(&mut files, alloc, part)?;
-    }
+    put_parts(&mut files, alloc, parts)?;
+    volume_around(alloc, ffs3, files.as_slice())
+}
+
+/// A volume around the bytes of its files, without a block map.
+pub fn volume_around(alloc: Global, ffs3: bool, files: &[u8]) -> Result<Bytes, NoMemory> {
     let length = files.len().wrapping_add(72);
     let blank = volume_header(alloc, ffs3, length, 0)?;
     let checksum = 0u16.wrapping_sub(sum_of_words(blank.as_slice()));
     let mut volume = volume_header(alloc, ffs3, length, checksum)?;
-    volume.extend(files.as_slice())?;
+    volume.extend(files)?;
     Ok(volume)
 }
