@@ -1,7 +1,8 @@
 //! Reading the plain form of an image from its front on.
-ghost use Rattle.std.specs.Prelude.{◌≡◌, ◌+◌, ◌*◌, ◌≤◌, ◌<◌, true, false};
+ghost use Rattle.std.specs.Prelude.{◌≡◌, ◌↔◌, ◌+◌, ◌*◌, ◌≤◌, ◌<◌, true, false, IsTrue};
 ghost use Rattle.mm_base.specs.Numbers.{number_at as number_there};
 ghost use Rattle.pe_loader.specs.Headers.{part_count as part_count_told, image_size as image_size_told, headers_size as headers_size_told};
+ghost use Rattle.pe_loader.specs.Sections.{part_at as part_told};
 ghost use Rattle.pe_loader.specs.Forms.{plain_byte, plain_form};
 ghost use Rattle.pe_loader.specs.Layout.{IsLaidOut, EndBefore, AreInOrder};
 ghost use Rattle.pe_loader.specs.Reading.{IsStretch, IsReady};
@@ -34,6 +35,7 @@ fn ended_at(bytes: &[u8], first: u16, at: usize) -> u16
     requires ended { EndBefore bytes.now first at }
     ensures few { result ≤ part_count_told bytes.now }
     ensures ended { EndBefore bytes.now result at }
+    ensures last { result < part_count_told bytes.now → at < (part_told bytes.now result).at + (part_told bytes.now result).length }
 {
     let table = table_at(bytes);
     let count = part_count(bytes);
@@ -134,7 +136,8 @@ impl Cursor {
     /// A cursor at the front; linear in the sections.
     pub(crate) fn new(bytes: &[u8]) -> Cursor
         requires { IsLaidOut bytes.now }
-        ensures { IsReady bytes.now result 0 }
+        ensures ready { IsReady bytes.now result 0 }
+        ensures order { IsTrue result.ordered ↔ AreInOrder bytes.now }
     {
         Cursor {
             ordered: are_in_order(bytes),

@@ -16,7 +16,7 @@ loop-head-init c =
     record {
       fits = c.requires.read.1.fits;
       near = omega arith;
-      ready = ready_later c.args.bytes.now _ 0 _ (omega arith) c.new-cursor.ensures;
+      ready = ready_later c.args.bytes.now _ 0 _ (omega arith) c.new-cursor.ensures.ready;
       rest = rest_all c.args.bytes.now c.args.difference _ c.args.out.now c.requires.read base;
     }
 
