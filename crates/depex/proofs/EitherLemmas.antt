@@ -1,5 +1,6 @@
 -- Whatever the bytes are, they begin with an expression or have a fault.
-use Rattle.std.proofs.Common.{◌≡◌, ◌⊎◌, inl, inr, ℕ, zero, suc, ◌+◌, ◌<◌, ◌≤◌, Bool, true, false, if◌then◌else◌, ◌==◌, nat_lt, nat_le, List, [], ◌∷◌, ◌++◌, length, take, drop, get_or, Result, Ok, Err, refl, sym, ap, ◌∙◌, subst, length-append, arith}
+use Rattle.std.proofs.Common.{◌≡◌, ◌⊎◌, inl, inr, ℕ, zero, suc, ◌+◌, ◌<◌, ◌≤◌, Bool, true, false, if◌then◌else◌, ◌==◌, nat_lt, nat_le, List, [], ◌∷◌, ◌++◌, length, take, drop, get_or, Result, Ok, Err, refl, sym, ap, ◌∙◌, ◌-◌, subst, append_assoc, length-append, arith}
+use Rattle.std.proofs.Math.Seq.{take-append-add}
 use Rattle.std.proofs.lemmas.List.{take-append-drop, length-take-le, nil_from_length}
 use Rattle.std.proofs.lemmas.Bool.Decides.{nat_tests}
 use Rattle.mm_base.specs.declared.expression.DepexFault.{DepexFault}
@@ -172,6 +173,22 @@ either bytes = told (verdict bytes)
     told (Ok expression, is) = inl (expression, is)
     told (Err fault, is) = inr (fault, is)
 
-pub same_past_end : (expression : Expression) (behind other : List ℕ) → IsExpression (spelled expression ++ behind) expression
-    → IsExpression (spelled expression ++ other) expression
-same_past_end expression behind other is = record { behind = other; begins = refl; sound = is.sound }
+pub same_with_more : (bytes more : List ℕ) (expression : Expression) → IsExpression bytes expression → IsExpression (bytes ++ more) expression
+same_with_more bytes more expression is = record {
+  behind = is.behind ++ more;
+  begins = ap (λ (all : List ℕ). all ++ more) is.begins ∙ append_assoc (spelled expression) is.behind more;
+  sound = is.sound;
+}
+
+pub same_where_cut : (bytes : List ℕ) (cut : ℕ) (expression : Expression) → IsExpression bytes expression → length (spelled expression) ≤ cut
+    → IsExpression (take cut bytes) expression
+same_where_cut bytes cut expression is h =
+    let far : cut ≡ length (spelled expression) + (cut - length (spelled expression)) = omega arith in
+    record {
+      behind = take (cut - length (spelled expression)) is.behind;
+      begins =
+          ap (λ (all : List ℕ). take cut all) is.begins
+          ∙ ap (λ (n : ℕ). take n (spelled expression ++ is.behind)) far
+          ∙ take-append-add (spelled expression) is.behind (cut - length (spelled expression));
+      sound = is.sound;
+    }

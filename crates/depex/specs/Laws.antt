@@ -1,5 +1,5 @@
 -- Laws of dependency expressions: bytes are one expression, or have one fault, and not both; and items are those of one tree.
-use Rattle.std.specs.Prelude.{◌≡◌, ◌⊎◌, ℕ, List, ◌++◌}
+use Rattle.std.specs.Prelude.{◌≡◌, ◌⊎◌, ℕ, List, ◌++◌, ◌≤◌, length, take}
 use Rattle.mm_base.specs.declared.expression.DepexFault.{DepexFault}
 use Rattle.depex.specs.declared.item.Item.{Item}
 use Rattle.depex.specs.Trees.{Tree, postfix}
@@ -26,12 +26,17 @@ OneExpression = (bytes : List ℕ) (one other : Expression) → IsExpression byt
 abbrev pub OneFault : Type 0
 OneFault = (bytes : List ℕ) (one other : DepexFault) → HasFault bytes one → HasFault bytes other → one ≡ other
 
--- Bytes past END change nothing.
-abbrev pub SamePastEnd : Type 0
-SamePastEnd =
-    (expression : Expression) (behind other : List ℕ)
-    → IsExpression (spelled expression ++ behind) expression
-    → IsExpression (spelled expression ++ other) expression
+-- Bytes past END change nothing: with anything added behind them, they begin with the same expression;
+abbrev pub SameWithMore : Type 0
+SameWithMore = (bytes more : List ℕ) (expression : Expression) → IsExpression bytes expression → IsExpression (bytes ++ more) expression
+
+-- and so they do where they are cut behind it.
+abbrev pub SameWhereCut : Type 0
+SameWhereCut =
+    (bytes : List ℕ) (cut : ℕ) (expression : Expression)
+    → IsExpression bytes expression
+    → length (spelled expression) ≤ cut
+    → IsExpression (take cut bytes) expression
 
 -- A tree is known by its items, whatever stands in front of them.
 abbrev pub OneTree : Type 0

@@ -1,5 +1,5 @@
 //! Laws of dependency expressions. These functions do nothing: their contracts are the laws.
-ghost use Rattle.depex.specs.Laws.{ExpressionOrFault, NeverBoth, OneExpression, OneFault, SamePastEnd, OneTree};
+ghost use Rattle.depex.specs.Laws.{ExpressionOrFault, NeverBoth, OneExpression, OneFault, SameWithMore, SameWhereCut, OneTree};
 
 /// Bytes begin with one expression or have one fault, and never both.
 pub fn expression_or_fault()
@@ -11,7 +11,8 @@ pub fn expression_or_fault()
 
 /// Bytes past an expression's END change nothing of it.
 pub fn same_past_end()
-    ensures { SamePastEnd }
+    ensures added { SameWithMore }
+    ensures cut { SameWhereCut }
 {}
 
 /// Two trees whose items end one list are one.

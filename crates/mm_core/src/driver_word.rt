@@ -24,7 +24,8 @@ fn data<'a>(bytes: &'a [u8], section: &Section) -> &'a [u8]
     data
 }
 
-/// The word of a driver file behind others; linear in its bytes, and in its sections' fixups and items.
+/// The word of a driver file behind others; linear in its bytes, in its image's fixups and in its expression's items. Where the
+/// section table of its image isn't in the order of their places, at most the square of these sections comes on top.
 pub(crate) fn driver_word(
     alloc: Global,
     bytes: &[u8],

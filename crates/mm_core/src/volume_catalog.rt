@@ -18,7 +18,8 @@ const MM_STANDALONE: u8 = 0x0e;
 const PAD: u8 = 0xf0;
 
 /// The word of each file of a volume, in order. It costs one pass over the files, over the bytes of drivers and over the fixups
-/// of their images; and for each driver a comparison for each doubling of their number.
+/// of their images, at most the square of the sections of an image whose table isn't in the order of their places, and for each
+/// driver a comparison for each doubling of their number.
 pub fn catalog(alloc: Global, bytes: &[u8], volume: &Volume) -> Result<List<FileWord>, NoMemory>
     requires read { IsVolume bytes.now volume.now }
     requires few { length bytes.now ≤ 16777216 }
@@ -35,7 +36,7 @@ pub fn catalog(alloc: Global, bytes: &[u8], volume: &Volume) -> Result<List<File
     Ok(words)
 }
 
-/// The word of a file behind others; linear in its bytes.
+/// The word of a file behind others; what a driver's costs, `driver_word` says.
 fn word_of(
     alloc: Global,
     bytes: &[u8],

@@ -12,7 +12,8 @@ use mm_text::{Parts, report};
 use std::alloc::Global;
 use volume_reader::read_volume;
 
-/// The report of the volume that these bytes are. Each byte is read a bounded number of times.
+/// The report of the volume that these bytes are. Each byte is read a bounded number of times, but for the entries of the section
+/// table of an image that isn't in the order of their places: those at most as often as there are sections.
 pub(crate) fn check_volume(alloc: Global, bytes: &[u8]) -> Result<Made, Status>
     requires { length bytes.now ≤ 16777216 }
     ensures ok { IfOk result (IsMadeOfVolume bytes.now) }

@@ -10,7 +10,9 @@ use volume_reader::VolumeEnd;
 /// The two sources that a form may name.
 #[derive(Clone, Copy, Debug, PartialEq, Eq)]
 pub enum Which {
+    /// The script or the volume.
     First,
+    /// The source that a form names behind it; no form that is served has one yet.
     Second,
 }
 

@@ -23,7 +23,9 @@ use std::alloc::Global;
 /// How a run ended, and the world that it drove.
 #[derive(Drop)]
 pub struct RunEnd {
+    /// Its status, whose number is the program's exit status.
     pub status: Status,
+    /// The world, where a script was driven.
     pub world: Option<World<Core>>,
 }
 
@@ -35,8 +37,8 @@ pub(crate) struct Made {
 }
 
 /// Does all that the program does. The words are `script` or `check` and one word more: the script or the volume is the first
-/// source, and the report goes to the sink. It costs a step for each byte read and written and for each action of the
-/// processor.
+/// source, and the report goes to the sink. A script costs a step for each byte read and written and for each action of the
+/// processor; a volume what `catalog` of `mm_core` says.
 pub fn run<V: Source, S: Source, K: Sink>(
     alloc: Global,
     words: &Vec<String>,
