@@ -42,6 +42,15 @@ apart_from bytes part (suc n) k h none =
 begins_behind : (one other : Part) → one.at + one.length ≤ other.at → overlaps (range_of one) (range_of other) ≡ false
 begins_behind one other h = grind (arith, nat_tests)
 
+-- an empty one
+empty_apart : (one other : Part) → other.length ≡ 0 → overlaps (range_of one) (range_of other) ≡ false
+empty_apart one other none = grind (arith, nat_tests)
+
+pub empty_shares_none : (bytes : List ℕ) (part : Part) (n : ℕ) → part.length ≡ 0 → overlaps_first bytes part n ≡ false
+empty_shares_none bytes part zero none = refl
+empty_shares_none bytes part (suc n) none =
+    or_from _ _ (empty_shares_none bytes part n none) (empty_apart (part_at bytes n) part none)
+
 pub behind_all : (bytes : List ℕ) (part : Part) (n : ℕ) → ((j : ℕ) → j < n → (part_at bytes j).at + (part_at bytes j).length ≤ part.at)
     → overlaps_first bytes part n ≡ false
 behind_all bytes part zero behind = refl

@@ -154,9 +154,6 @@ impl Cursor {
         ensures ready { IsReady bytes.now result at }
         ensures there { at < result.stretch.end }
     {
-        if at < self.stretch.end {
-            return *self;
-        }
         let first = ended_at(bytes, self.first, at);
         Cursor {
             ordered: self.ordered,
@@ -173,7 +170,9 @@ impl Cursor {
         ensures byte { result ≡ plain_byte bytes.now at }
         ensures ready { IsReady bytes.now self.new at }
     {
-        *self = self.moved_to(bytes, at);
+        if self.stretch.end <= at {
+            *self = self.moved_to(bytes, at);
+        }
         self.stretch.byte(bytes, at)
     }
 

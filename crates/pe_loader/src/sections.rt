@@ -94,6 +94,9 @@ fn overlaps_earlier(bytes: &[u8], part: &Part, count: u16, highest: u32) -> bool
     requires highest { EndBefore bytes.now count highest }
     ensures { result ≡ shares_with_first bytes.now part.now count }
 {
+    if part.length == 0 {
+        return false;
+    }
     highest > part.at && overlaps_first(bytes, part, count)
 }
 
