@@ -1,7 +1,7 @@
 -- The plain form as it is laid out, and fixups as they are applied.
 use Rattle.std.proofs.Common.{◌≡◌, ◌⊎◌, inl, inr, ℕ, ◌+◌, ◌-◌, ◌*◌, ◌/◌, ◌≤◌, ◌<◌, true, false, cond, ltb, List, [], ◌∷◌, ◌++◌, length, get_or, take, drop, fold, sym, ap, ◌∙◌, subst, arith, below_more}
 use Rattle.std.specs.List.{list_all}
-use Rattle.std.proofs.lemmas.Bool.{cond-true, cond-false, cases_Bool, cases_lt, lt-ltb, le-ltb, or_cases, and_parts, leb-true, eqb-true}
+use Rattle.std.proofs.lemmas.Bool.{cond-true, cond-false, cases_Bool, cases_lt, lt-ltb, le-ltb, and_parts, leb-true}
 use Rattle.std.proofs.lemmas.Bool.Decides.{nat_tests}
 use Rattle.std.proofs.lemmas.List.{length-take-le, length-append, length-drop, get_or_append_left, get_or-append_right, get_or-take, get_or-drop}
 use Rattle.std.proofs.lemmas.List.FromFn.{fill_by_all}
@@ -18,6 +18,8 @@ use Rattle.pe_loader.specs.Loading.{put, fixed}
 use Rattle.pe_loader.specs.Layout.{IsLaidOut}
 use Rattle.pe_loader.specs.Reading.{IsHead}
 use Rattle.pe_loader.specs.declared.fixup.Fixup.{Fixup}
+use Rattle.pe_loader.specs.declared.fixup_kind.FixupKind.{FixupKind}
+use Rattle.pe_loader.specs.declared.fixup_kind.FixupKind.TheVariants.{Absolute, Unknown}
 use Rattle.pe_loader.specs.declared.relocations.Head.{Head}
 use Rattle.pe_loader.proofs.FormLemmas.{copied_within, plain_of_headers, plain_of_part, plain_of_none}
 use Rattle.pe_loader.proofs.BlockLemmas.{fixups_from-more}
@@ -129,13 +131,15 @@ copy_in_image bytes k laid h = omega (arith, (laid.each k h).to, copied_within b
 
 -- ---- fixups that are applied
 
+stays_of : (size : ℕ) (directory : Range) (kind : FixupKind) (at : ℕ) → fixup_passes size directory (record { kind = kind; at = at }) ≡ true
+    → StaysWithin size (record { kind = kind; at = at })
+stays_of size directory Absolute at passes = tt
+stays_of size directory Unknown at passes = cc
+stays_of size directory _ at passes = leb-true _ _ (and_parts _ _ passes).0
+
 -- one that passes stays in the image
 pub stays_within : (size : ℕ) (directory : Range) (fixup : Fixup) → fixup_passes size directory fixup ≡ true → StaysWithin size fixup
-stays_within size directory fixup passes =
-    elim (or_cases _ _ passes) [
-      | inl none ↦ inl (eqb-true _ _ none)
-      | inr some ↦ inr (leb-true _ _ (and_parts _ _ (and_parts _ _ some).0).1)
-    ]
+stays_within size directory fixup passes = stays_of size directory fixup.kind fixup.at passes
 
 -- the next of those that are left
 pub apply_more : (by : ℕ) (form out new : List ℕ) (page at n k word : ℕ) (fixup : Fixup) → k < n → word ≡ number_at form (at + 2 * k) 2 → fixup ≡ fixup_of page word

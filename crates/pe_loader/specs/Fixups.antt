@@ -1,6 +1,6 @@
 -- The relocations of an image: PE32+ as UEFI images use it. The directory has blocks one behind another; a block has the address of a
 -- page, its own size, and an entry of two bytes for each fixup. They are read from the plain form.
-use Rattle.std.specs.Prelude.{◌≡◌, ◌⊎◌, ℕ, zero, suc, ◌+◌, ◌-◌, ◌/◌, ◌%◌, ◌≤◌, Bool, true, false, if◌then◌else◌, ◌==◌, ◌&&◌, ◌||◌, not, nat_le, List, [], ◌∷◌}
+use Rattle.std.specs.Prelude.{◌≡◌, ℕ, zero, suc, ◌+◌, ◌-◌, ◌/◌, ◌%◌, ◌≤◌, Bool, true, false, if◌then◌else◌, ◌==◌, ◌&&◌, not, nat_le, List, [], ◌∷◌}
 use Rattle.std.specs.List.{list_all, flat_map}
 use Rattle.mm_base.specs.Numbers.{number_at}
 use Rattle.mm_base.specs.Range.{overlaps}
@@ -8,30 +8,49 @@ use Rattle.mm_base.specs.declared.range.Range.{Range}
 use Rattle.pe_loader.specs.Headers.{image_size, relocs_of}
 use Rattle.pe_loader.specs.Forms.{plain_form}
 use Rattle.pe_loader.specs.declared.fixup.Fixup.{Fixup}
+use Rattle.pe_loader.specs.declared.fixup_kind.FixupKind.{FixupKind}
+use Rattle.pe_loader.specs.declared.fixup_kind.FixupKind.TheVariants.{Absolute, High, Low, HighLow, Dir64, Unknown}
+
+-- the kind that the upper 4 bits of an entry tell, IMAGE_REL_BASED_ABSOLUTE (0), IMAGE_REL_BASED_HIGH (1), IMAGE_REL_BASED_LOW (2),
+-- IMAGE_REL_BASED_HIGHLOW (3) or IMAGE_REL_BASED_DIR64 (10); other numbers are none of these
+abbrev pub kind_of : ℕ → FixupKind
+kind_of bits =
+    if bits == 0 then Absolute
+    else if bits == 1 then High
+    else if bits == 2 then Low
+    else if bits == 3 then HighLow
+    else if bits == 10 then Dir64
+    else Unknown
 
 -- what an entry of a block says: its upper 4 bits are the kind, its lower 12 a place in the page
 abbrev pub fixup_of : ℕ → ℕ → Fixup
-fixup_of page word = record { kind = word / 4096; at = page + word % 4096 }
+fixup_of page word = record { kind = kind_of (word / 4096); at = page + word % 4096 }
 
--- the bytes that a fixup changes: four for kind 3, eight for kind 10, and two for kinds 1 and 2
+-- how many bytes a fixup of a kind changes: four of IMAGE_REL_BASED_HIGHLOW, eight of IMAGE_REL_BASED_DIR64, and two of
+-- IMAGE_REL_BASED_HIGH and IMAGE_REL_BASED_LOW; fixups of other kinds change none, so for these it doesn't matter
+abbrev pub width_of : FixupKind → ℕ
+width_of HighLow = 4
+width_of Dir64 = 8
+width_of _ = 2
+
+-- the bytes that a fixup changes
 abbrev pub changed_by : Fixup → Range
-changed_by fixup = record { base = fixup.at; length = if fixup.kind == 3 then 4 else if fixup.kind == 10 then 8 else 2 }
+changed_by fixup = record { base = fixup.at; length = width_of fixup.kind }
 
--- A fixup that does something stays within so many bytes.
+-- A fixup stays within so many bytes: one of IMAGE_REL_BASED_ABSOLUTE anyhow, since it does nothing.
 abbrev pub StaysWithin : ℕ → Fixup → Type 0
-StaysWithin size fixup = (fixup.kind ≡ 0) ⊎ (fixup.at + (changed_by fixup).length ≤ size)
+StaysWithin size fixup = elim (fixup.kind) [ Absolute ↦ Unit {0} | _ ↦ fixup.at + (changed_by fixup).length ≤ size ]
 
--- whether there is such a kind of fixup, beside kind 0, which does nothing
-abbrev pub is_known : ℕ → Bool
-is_known kind = (kind == 1) || (kind == 2) || (kind == 3) || (kind == 10)
-
--- Whether a fixup of an image of this size and with this directory passes: of kind 0 no place is asked; one of another kind stays in
--- the image, and doesn't touch the directory.
+-- Whether a fixup of an image of this size and with this directory passes: of IMAGE_REL_BASED_ABSOLUTE no place is asked; one of another
+-- kind that there is stays in the image, and doesn't touch the directory.
 abbrev pub fixup_passes : ℕ → Range → Fixup → Bool
 fixup_passes size directory fixup =
     let changed = changed_by fixup in
-    (fixup.kind == 0)
-    || (is_known fixup.kind && nat_le (changed.base + changed.length) size && not (overlaps changed directory))
+    elim (fixup.kind) [
+      | Absolute ↦ true
+      | Unknown ↦ false
+      | _ ↦ nat_le (changed.base + changed.length) size && not (overlaps changed directory)
+    ]
 
 -- so many entries one behind another, of a block for this page
 abbrev pub fixups_from : List ℕ → ℕ → ℕ → ℕ → List Fixup

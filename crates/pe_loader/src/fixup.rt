@@ -3,13 +3,14 @@ ghost use Rattle.std.specs.Prelude.{◌≡◌, ◌+◌, ◌≤◌, ◌<◌, ◌^
 ghost use Rattle.pe_loader.specs.Fixups.{fixup_of, changed_by, fixup_passes, StaysWithin};
 ghost use Rattle.pe_loader.specs.Loading.{fixed};
 
+use crate::fixup_kind::FixupKind;
 use crate::writing::{raise_u16, raise_u32, raise_u64};
 use mm_base::Range;
 
 /// What an entry of a relocation block says: its kind, and the place that it is for, counted from the image's begin.
 #[derive(Clone, Copy, Debug, PartialEq, Eq)]
 pub(crate) struct Fixup {
-    kind: u8,
+    kind: FixupKind,
     at: usize,
 }
 
@@ -19,7 +20,7 @@ impl Fixup {
         ensures { result ≡ fixup_of page word }
     {
         Fixup {
-            kind: (word / 4096) as u8,
+            kind: FixupKind::of((word / 4096) as u8),
             at: page as usize + (word % 4096) as usize,
         }
     }
@@ -31,8 +32,8 @@ impl Fixup {
         Range {
             base: self.at as u64,
             length: match self.kind {
-                3 => 4,
-                10 => 8,
+                FixupKind::HighLow => 4,
+                FixupKind::Dir64 => 8,
                 _ => 2,
             },
         }
@@ -45,11 +46,11 @@ impl Fixup {
     {
         let changed = self.changed();
         match self.kind {
-            0 => true,
-            1 | 2 | 3 | 10 => {
+            FixupKind::Absolute => true,
+            FixupKind::High | FixupKind::Low | FixupKind::HighLow | FixupKind::Dir64 => {
                 changed.base + changed.length <= size as u64 && !changed.overlaps(directory)
             }
-            _ => false,
+            FixupKind::Unknown => false,
         }
     }
 
@@ -60,11 +61,11 @@ impl Fixup {
         ensures { out.new ≡ fixed difference out.old self.now }
     {
         match self.kind {
-            1 => raise_u16(out, self.at, (difference / 0x1_0000 % 0x1_0000) as u16),
-            2 => raise_u16(out, self.at, (difference % 0x1_0000) as u16),
-            3 => raise_u32(out, self.at, (difference % 0x1_0000_0000) as u32),
-            10 => raise_u64(out, self.at, difference),
-            _ => {}
+            FixupKind::High => raise_u16(out, self.at, (difference / 0x1_0000 % 0x1_0000) as u16),
+            FixupKind::Low => raise_u16(out, self.at, (difference % 0x1_0000) as u16),
+            FixupKind::HighLow => raise_u32(out, self.at, (difference % 0x1_0000_0000) as u32),
+            FixupKind::Dir64 => raise_u64(out, self.at, difference),
+            FixupKind::Absolute | FixupKind::Unknown => {}
         }
     }
 }

@@ -7,6 +7,10 @@ ghost use Rattle.pe_loader.specs.Headers.{pe_at as pe_place, optional_at as opti
 ghost use Rattle.pe_loader.specs.Layout.{HasHeaders};
 
 use crate::checking::check;
+use crate::fields::{
+    MACHINE, NUMBER_OF_RVA_AND_SIZES, NUMBER_OF_SECTIONS, OPTIONAL_HEADER, RELOCATIONS_ADDRESS,
+    RELOCATIONS_SIZE, SIZE_OF_HEADERS, SIZE_OF_IMAGE, SIZE_OF_OPTIONAL_HEADER, SUBSYSTEM,
+};
 use crate::numbers::{u16_at, u32_at};
 use crate::{PeFault, PeKind};
 use mm_base::{Range, stands_at};
@@ -60,7 +64,7 @@ pub(crate) fn optional_at(bytes: &[u8]) -> usize
     ensures place { result ≡ optional_place bytes.now }
     ensures few { result < 4294967320 }
 {
-    pe_at(bytes) + 24
+    pe_at(bytes) + OPTIONAL_HEADER
 }
 
 /// The machine that the image is for.
@@ -68,7 +72,7 @@ pub(crate) fn machine(bytes: &[u8]) -> u16
     requires { optional_place bytes.now + 112 ≤ length bytes.now }
     ensures { result ≡ machine_told bytes.now }
 {
-    u16_at(bytes, pe_at(bytes) + 4)
+    u16_at(bytes, pe_at(bytes) + MACHINE)
 }
 
 /// How many sections there are.
@@ -76,7 +80,7 @@ pub(crate) fn part_count(bytes: &[u8]) -> u16
     requires { optional_place bytes.now + 112 ≤ length bytes.now }
     ensures { result ≡ part_count_told bytes.now }
 {
-    u16_at(bytes, pe_at(bytes) + 6)
+    u16_at(bytes, pe_at(bytes) + NUMBER_OF_SECTIONS)
 }
 
 /// How many bytes the optional header has.
@@ -84,7 +88,7 @@ fn optional_size(bytes: &[u8]) -> u16
     requires { optional_place bytes.now + 112 ≤ length bytes.now }
     ensures { result ≡ optional_size_told bytes.now }
 {
-    u16_at(bytes, pe_at(bytes) + 20)
+    u16_at(bytes, pe_at(bytes) + SIZE_OF_OPTIONAL_HEADER)
 }
 
 /// The 32-bit field of the optional header that stands so many bytes behind its begin.
@@ -101,7 +105,7 @@ pub(crate) fn image_size(bytes: &[u8]) -> u32
     requires { optional_place bytes.now + 112 ≤ length bytes.now }
     ensures { result ≡ image_size_told bytes.now }
 {
-    field(bytes, 56)
+    field(bytes, SIZE_OF_IMAGE)
 }
 
 /// How many bytes the headers have.
@@ -109,7 +113,7 @@ pub(crate) fn headers_size(bytes: &[u8]) -> u32
     requires { optional_place bytes.now + 112 ≤ length bytes.now }
     ensures { result ≡ headers_size_told bytes.now }
 {
-    field(bytes, 60)
+    field(bytes, SIZE_OF_HEADERS)
 }
 
 /// How many directories the optional header has.
@@ -117,7 +121,7 @@ fn directory_count(bytes: &[u8]) -> u32
     requires { optional_place bytes.now + 112 ≤ length bytes.now }
     ensures { result ≡ directory_count_told bytes.now }
 {
-    field(bytes, 108)
+    field(bytes, NUMBER_OF_RVA_AND_SIZES)
 }
 
 /// Where the section table stands.
@@ -145,12 +149,12 @@ pub(crate) fn relocs(bytes: &[u8]) -> Range
     ensures base { result.base < 4294967296 }
     ensures length { result.length < 4294967296 }
 {
-    if directory_count(bytes) <= RELOCATIONS || field(bytes, 156) == 0 {
+    if directory_count(bytes) <= RELOCATIONS || field(bytes, RELOCATIONS_SIZE) == 0 {
         return Range { base: 0, length: 0 };
     }
     Range {
-        base: field(bytes, 152) as u64,
-        length: field(bytes, 156) as u64,
+        base: field(bytes, RELOCATIONS_ADDRESS) as u64,
+        length: field(bytes, RELOCATIONS_SIZE) as u64,
     }
 }
 
@@ -179,7 +183,7 @@ fn is_driver(bytes: &[u8]) -> bool
     requires { optional_place bytes.now + 112 ≤ length bytes.now }
     ensures { result ≡ ((subsystem_told bytes.now == 11) || (subsystem_told bytes.now == 12)) }
 {
-    let subsystem = u16_at(bytes, optional_at(bytes) + 68);
+    let subsystem = u16_at(bytes, optional_at(bytes) + SUBSYSTEM);
     subsystem == BOOT_DRIVER || subsystem == RUNTIME_DRIVER
 }
 
@@ -243,13 +247,37 @@ pub(crate) fn check_header(bytes: &[u8]) -> Result<(), PeFault>
 {
     check(DOS_BYTES <= bytes.len(), 0, PeKind::Short)?;
     check(is_mz(bytes), 0, PeKind::Mz)?;
-    check(has_room(bytes), 0x3c, PeKind::Lfanew)?;
+    check(has_room(bytes), LFANEW as u32, PeKind::Lfanew)?;
     let pe = pe_at(bytes) as u32;
     check(has_signature(bytes), pe, PeKind::Signature)?;
-    check(has_known_machine(bytes), pe + 4, PeKind::Machine)?;
-    check(is_pe32_plus(bytes), pe + 24, PeKind::Magic)?;
-    check(optional_fits(bytes), pe + 20, PeKind::Optional)?;
-    check(is_driver(bytes), pe + 92, PeKind::Subsystem)?;
-    check(size_fits(bytes), pe + 80, PeKind::Size)?;
-    check(headers_fit(bytes), pe + 84, PeKind::Headers)
+    check(
+        has_known_machine(bytes),
+        pe + MACHINE as u32,
+        PeKind::Machine,
+    )?;
+    check(
+        is_pe32_plus(bytes),
+        pe + OPTIONAL_HEADER as u32,
+        PeKind::Magic,
+    )?;
+    check(
+        optional_fits(bytes),
+        pe + SIZE_OF_OPTIONAL_HEADER as u32,
+        PeKind::Optional,
+    )?;
+    check(
+        is_driver(bytes),
+        pe + (OPTIONAL_HEADER + SUBSYSTEM) as u32,
+        PeKind::Subsystem,
+    )?;
+    check(
+        size_fits(bytes),
+        pe + (OPTIONAL_HEADER + SIZE_OF_IMAGE) as u32,
+        PeKind::Size,
+    )?;
+    check(
+        headers_fit(bytes),
+        pe + (OPTIONAL_HEADER + SIZE_OF_HEADERS) as u32,
+        PeKind::Headers,
+    )
 }

@@ -10,6 +10,7 @@ ghost use Rattle.pe_loader.specs.Layout.{HasHeaders, IsLaidOut};
 ghost use Rattle.pe_loader.specs.declared.fixup.Fixup.{Fixup as FixupValue};
 
 use crate::checking::check;
+use crate::fields::{ADDRESS_OF_ENTRY_POINT, IMAGE_BASE, RELOCATIONS_ADDRESS};
 use crate::header::{
     check_header, field, headers_size, image_size, machine, optional_at, part_count, relocs,
     table_at,
@@ -28,8 +29,8 @@ fn image_of(bytes: &[u8]) -> Image
 {
     Image {
         machine: machine(bytes),
-        entry: field(bytes, 16),
-        base: number_at(bytes, optional_at(bytes) + 24, 8),
+        entry: field(bytes, ADDRESS_OF_ENTRY_POINT),
+        base: number_at(bytes, optional_at(bytes) + IMAGE_BASE, 8),
         size: image_size(bytes),
         headers: headers_size(bytes),
         parts: part_count(bytes),
@@ -39,7 +40,7 @@ fn image_of(bytes: &[u8]) -> Image
 }
 
 /// Makes all checks but that of the relocations; the first that fails is the fault.
-fn check_all(bytes: &[u8]) -> Result<(), PeFault>
+fn check_headers_and_sections(bytes: &[u8]) -> Result<(), PeFault>
     requires { length bytes.now ≤ 16777216 }
     ensures ok { OnOk result (first_failing (checks bytes.now) ≡ None) }
     ensures laid_out { OnOk result (IsLaidOut bytes.now) }
@@ -60,7 +61,7 @@ fn check_relocs(bytes: &[u8]) -> Result<(), PeFault>
 {
     check(
         relocs_pass(bytes),
-        optional_at(bytes) as u32 + 152,
+        optional_at(bytes) as u32 + RELOCATIONS_ADDRESS as u32,
         PeKind::Reloc,
     )
 }
@@ -74,7 +75,7 @@ pub fn inspect(bytes: &[u8]) -> Result<Image, PeFault>
     ensures found { (image : ImageValue) (fixups : List FixupValue) → IsImage bytes.now image fixups → result ≡ Ok image }
     ensures first { (fault : PeFaultValue) → HasFault bytes.now fault → result ≡ Err fault }
 {
-    check_all(bytes)?;
+    check_headers_and_sections(bytes)?;
     check_relocs(bytes)?;
     Ok(image_of(bytes))
 }

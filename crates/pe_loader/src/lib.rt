@@ -3,7 +3,9 @@
 
 mod checking;
 mod cursor;
+mod fields;
 mod fixup;
+mod fixup_kind;
 mod header;
 #[cfg(test)]
 mod inspect_tests;

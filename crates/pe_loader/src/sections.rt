@@ -7,12 +7,31 @@ ghost use Rattle.pe_loader.specs.Sections.{part_at as part_told, rights_of, rang
 ghost use Rattle.pe_loader.specs.Layout.{HasHeaders, EndBefore, AreInOrder};
 
 use crate::checking::check;
+use crate::fields::{
+    ADDRESS_OF_ENTRY_POINT, CHARACTERISTICS, POINTER_TO_RAW_DATA, SIZE_OF_RAW_DATA,
+    VIRTUAL_ADDRESS, VIRTUAL_SIZE,
+};
 use crate::header::{
     EBC, field, headers_size, image_size, machine, optional_at, part_count, section_at, table_at,
 };
 use crate::numbers::u32_at;
 use crate::{Part, PeFault, PeKind};
 use mm_base::Range;
+
+/// The bit of a section's characteristics that it may be executed, IMAGE_SCN_MEM_EXECUTE.
+const MEM_EXECUTE: u32 = 0x2000_0000;
+
+/// The bit of a section's characteristics that it may be read, IMAGE_SCN_MEM_READ.
+const MEM_READ: u32 = 0x4000_0000;
+
+/// The bit of a section's characteristics that it may be written, IMAGE_SCN_MEM_WRITE.
+const MEM_WRITE: u32 = 0x8000_0000;
+
+/// The bit of a section's rights that it may be read.
+const READ: u8 = 1;
+
+/// The bit of a section's rights that it may be written.
+const WRITE: u8 = 2;
 
 /// The bit of a section's rights that it may be executed.
 const EXECUTE: u8 = 4;
@@ -21,9 +40,9 @@ const EXECUTE: u8 = 4;
 fn rights(bits: u32) -> u8
     ensures { result ≡ rights_of bits }
 {
-    let read = if bits & 0x4000_0000 != 0 { 1 } else { 0 };
-    let write = if bits & 0x8000_0000 != 0 { 2 } else { 0 };
-    let execute = if bits & 0x2000_0000 != 0 { EXECUTE } else { 0 };
+    let read = if bits & MEM_READ != 0 { READ } else { 0 };
+    let write = if bits & MEM_WRITE != 0 { WRITE } else { 0 };
+    let execute = if bits & MEM_EXECUTE != 0 { EXECUTE } else { 0 };
     read + write + execute
 }
 
@@ -35,19 +54,19 @@ pub(crate) fn part_at(bytes: &[u8], table: usize, k: u16) -> Part
     ensures { result ≡ part_told bytes.now k }
 {
     let entry = table + 40 * k as usize;
-    let raw_size = u32_at(bytes, entry + 16);
-    let virtual_size = u32_at(bytes, entry + 8);
+    let raw_size = u32_at(bytes, entry + SIZE_OF_RAW_DATA);
+    let virtual_size = u32_at(bytes, entry + VIRTUAL_SIZE);
     let length = if virtual_size == 0 {
         raw_size
     } else {
         virtual_size
     };
     Part {
-        at: u32_at(bytes, entry + 12),
+        at: u32_at(bytes, entry + VIRTUAL_ADDRESS),
         length,
-        raw: u32_at(bytes, entry + 20),
+        raw: u32_at(bytes, entry + POINTER_TO_RAW_DATA),
         copied: length.min(raw_size),
-        rights: rights(u32_at(bytes, entry + 36)),
+        rights: rights(u32_at(bytes, entry + CHARACTERISTICS)),
     }
 }
 
@@ -158,7 +177,7 @@ fn entry_passes(bytes: &[u8]) -> bool
     requires { HasHeaders bytes.now }
     ensures { result ≡ entry_is_fit bytes.now }
 {
-    let entry = field(bytes, 16);
+    let entry = field(bytes, ADDRESS_OF_ENTRY_POINT);
     if machine(bytes) == EBC {
         entry % 2 == 0 && is_code(bytes, entry)
     } else {
@@ -175,7 +194,7 @@ pub(crate) fn check_entry(bytes: &[u8]) -> Result<(), PeFault>
 {
     check(
         entry_passes(bytes),
-        optional_at(bytes) as u32 + 16,
+        optional_at(bytes) as u32 + ADDRESS_OF_ENTRY_POINT as u32,
         PeKind::Entry,
     )
 }

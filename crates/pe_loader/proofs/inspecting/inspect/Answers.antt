@@ -16,4 +16,4 @@ returns-clause-first c =
     let bytes = c.args.bytes.now in
     let read = c.in_ok-check_relocs.ensures.ok in
     told_first bytes (Ok c.image_of.result)
-    (read.0, record { passes = c.in_ok-check_all.ensures.ok; says = c.image_of.ensures; relocations = read.1 }) tt
+    (read.0, record { passes = c.in_ok-check_headers_and_sections.ensures.ok; says = c.image_of.ensures; relocations = read.1 }) tt

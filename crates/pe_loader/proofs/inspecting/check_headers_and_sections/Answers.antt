@@ -4,7 +4,7 @@ use Rattle.pe_loader.specs.Headers.{FailsFirst}
 use Rattle.pe_loader.specs.Sections.{checks}
 use Rattle.pe_loader.proofs.HeaderLemmas.{has_headers}
 use Rattle.pe_loader.proofs.ImageLemmas.{checks_by_headers, checks_by_sections, checks_by_entry, checks_pass, laid_out_of}
-use Rattle.pe_loader.proofs.inspecting.check_all.Goals as goal
+use Rattle.pe_loader.proofs.inspecting.check_headers_and_sections.Goals as goal
 
 pub returns-in_err-check_header-clause-fault : goal.returns-in_err-check_header-clause-fault
 returns-in_err-check_header-clause-fault c =
