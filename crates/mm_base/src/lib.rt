@@ -15,6 +15,7 @@ mod list;
 mod machine;
 mod no_memory;
 mod numbers;
+mod operation;
 mod prepared;
 mod range;
 mod receipt;
@@ -39,7 +40,9 @@ pub use invocation::{Ended, FaultKind, Invocation, MOST_DENIALS, MOST_WRITES, Re
 pub use list::{Bytes, List};
 pub use machine::Machine;
 pub use no_memory::NoMemory;
+
 pub use numbers::{WORD_BYTES, le_at, number_at, stands_at, word_at};
+pub use operation::{AluOp, CmpOp};
 pub use prepared::{MOST_BYTES, OutcomeRooms, Prepared};
 pub use range::Range;
 pub use receipt::Receipt;
