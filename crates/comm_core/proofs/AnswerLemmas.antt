@@ -4,7 +4,7 @@ use Rattle.std.proofs.lemmas.List.{drop-drop}
 use Rattle.std.proofs.lemmas.Option.{slice_get-map}
 use Rattle.std.specs.List.{slice_get}
 use Rattle.std.specs.Option.{option_map}
-use Rattle.mm_base.specs.Numbers.{number_of, first_words, words_for, word_at, words_of_bytes}
+use Rattle.mm_base.specs.Numbers.{number_of, first_words, words_for, word_in, words_of_bytes}
 use Rattle.mm_base.specs.declared.receipt.Receipt.{Receipt}
 use Rattle.comm_core.specs.Piece.{store, from_word, answer}
 use Rattle.comm_core.specs.declared.action.Action.TheVariants.{Store}
@@ -14,7 +14,7 @@ pub length-first_words : (n : ℕ) (bytes : List ℕ) → length (first_words n 
 length-first_words zero bytes = refl
 length-first_words (suc n) bytes = ap suc (length-first_words n (drop 8 bytes))
 
-slice_get-first_words : (n i : ℕ) (bytes : List ℕ) → i < n → slice_get (first_words n bytes) i ≡ Some (word_at bytes i)
+slice_get-first_words : (n i : ℕ) (bytes : List ℕ) → i < n → slice_get (first_words n bytes) i ≡ Some (word_in bytes i)
 slice_get-first_words zero i bytes h = absurd (omega arith)
 slice_get-first_words (suc n) zero bytes h = refl
 slice_get-first_words (suc n) (suc i) bytes h =
@@ -62,14 +62,14 @@ stored_at : (receipt : Receipt) (i : ℕ) (to : ℕ × ℕ) → slice_get (answe
 stored_at receipt i to h = slice_get-map store (answer receipt) i ∙ ap (option_map store) h
 
 -- the reply's words
-pub answer-word : (receipt : Receipt) (i : ℕ) → receipt.dispatched ≡ true → i < words_for (length receipt.bytes) → slice_get (map store (answer receipt)) i ≡ Some (Store (2 + i) (word_at receipt.bytes i))
+pub answer-word : (receipt : Receipt) (i : ℕ) → receipt.dispatched ≡ true → i < words_for (length receipt.bytes) → slice_get (map store (answer receipt)) i ≡ Some (Store (2 + i) (word_in receipt.bytes i))
 answer-word receipt i d h =
     let ws : List (ℕ × ℕ) = from_word 2 (words_of_bytes receipt.bytes) in
-    stored_at receipt i (2 + i, word_at receipt.bytes i)
+    stored_at receipt i (2 + i, word_in receipt.bytes i)
     (ap (λ s. slice_get s i) (answer-dispatched receipt d)
     ∙ slice_get-front (reply receipt) ((1, receipt.status) ∷ []) i (rw (length-append ws ((0, length receipt.bytes) ∷ []), length-words receipt) (omega arith))
     ∙ slice_get-front ws ((0, length receipt.bytes) ∷ []) i (rw (length-words receipt) h)
-    ∙ slice_get-from_word 2 (words_of_bytes receipt.bytes) i (word_at receipt.bytes i) (slice_get-first_words (words_for (length receipt.bytes)) i receipt.bytes h))
+    ∙ slice_get-from_word 2 (words_of_bytes receipt.bytes) i (word_in receipt.bytes i) (slice_get-first_words (words_for (length receipt.bytes)) i receipt.bytes h))
 
 -- the reply's length
 pub answer-length : (receipt : Receipt) → receipt.dispatched ≡ true → slice_get (map store (answer receipt)) (words_for (length receipt.bytes)) ≡ Some (Store 0 (length receipt.bytes))

@@ -4,7 +4,7 @@ use Rattle.std.proofs.lemmas.Bool.{cases_lt, eqb-true, eqb-false, ne_eqb, ltb-tr
 use Rattle.std.proofs.lemmas.List.{length-take}
 use Rattle.std.proofs.lemmas.Option.{slice_get-get_or}
 use Rattle.mm_base.specs.Numbers.{bytes_of_word, bytes_of_words}
-use Rattle.mm_base.specs.Receipt.{told}
+use Rattle.mm_base.specs.Receipt.{receipt_of}
 use Rattle.mm_base.specs.Replay.{left_by}
 use Rattle.mm_base.specs.declared.cells.Saved.{Saved}
 use Rattle.mm_base.specs.declared.entry.Outcome.{Outcome}
@@ -31,7 +31,7 @@ abbrev pub IsShort : ℕ → Place → Type 0
 IsShort words AtRest = Unit {0}
 IsShort words Called = Unit {0}
 IsShort words (Capturing len values) = Unit {0}
-IsShort words (Answering len values position outcome stored) = length (answer (told position outcome)) ≤ words + 2
+IsShort words (Answering len values position outcome stored) = length (answer (receipt_of position outcome)) ≤ words + 2
 
 -- the lane has a place
 pub record Placed {M : Type 0} (step : M → Request → Outcome × M) (m : M) (words lane : ℕ) (past : List Mark) : Type 0 where
@@ -44,7 +44,7 @@ abbrev pub left : ℕ → Place → ℕ
 left words AtRest = 0
 left words Called = longest words
 left words (Capturing len values) = needed words len - length values + words + 3
-left words (Answering len values position outcome stored) = length (answer (told position outcome)) - stored
+left words (Answering len values position outcome stored) = length (answer (receipt_of position outcome)) - stored
 
 -- the lane has a place from which less is left
 pub record Acted {M : Type 0} (step : M → Request → Outcome × M) (m : M) (words lane : ℕ) (now : List Mark) (most : ℕ) : Type 0 where
@@ -75,8 +75,8 @@ turn_own step m words lane past len values bounded s enough =
     let on = to_answering words (outcomes_of step m past) lane len values outcome past s enough in
     let P : ℕ → Type 0 = λ k. StandsIn words (outcomes_of step m past ++ outcome ∷ []) lane (Did (Turned lane k) ∷ past) (Answering len values k outcome 0) in
     let Q : List Outcome → Type 0 = λ os. StandsIn words os lane (Did (Turned lane n) ∷ past) (Answering len values n outcome 0) in
-    let short : length (answer (told n outcome)) ≤ words + 2 =
-    length-answer_within words (told n outcome) (omega (arith, bounded (left_by step m (requests past)) request, length-request lane len (last_saved lane past) values (pieces lane past) s.0.older s.0.split, enough, needed_within words len)) in
+    let short : length (answer (receipt_of n outcome)) ≤ words + 2 =
+    length-answer_within words (receipt_of n outcome) (omega (arith, bounded (left_by step m (requests past)) request, length-request lane len (last_saved lane past) values (pieces lane past) s.0.older s.0.split, enough, needed_within words len)) in
     record {
       placed = record {
         place = Answering len values n outcome 0;
@@ -86,9 +86,9 @@ turn_own step m words lane past len values bounded s enough =
       less = omega (arith, short);
     }
 
-store_own : {M : Type 0} (step : M → Request → Outcome × M) (m : M) (words lane : ℕ) (past : List Mark) (len : ℕ) (values : List ℕ) (position : ℕ) (outcome : Outcome) (stored : ℕ) → StandsIn words (outcomes_of step m past) lane past (Answering len values position outcome stored) → length (answer (told position outcome)) ≤ words + 2 → Acted step m words lane (made lane (next_at words (Answering len values position outcome stored)) past) (length (answer (told position outcome)) - stored - 1)
+store_own : {M : Type 0} (step : M → Request → Outcome × M) (m : M) (words lane : ℕ) (past : List Mark) (len : ℕ) (values : List ℕ) (position : ℕ) (outcome : Outcome) (stored : ℕ) → StandsIn words (outcomes_of step m past) lane past (Answering len values position outcome stored) → length (answer (receipt_of position outcome)) ≤ words + 2 → Acted step m words lane (made lane (next_at words (Answering len values position outcome stored)) past) (length (answer (receipt_of position outcome)) - stored - 1)
 store_own step m words lane past len values position outcome stored s h =
-    let stores : List (ℕ × ℕ) = answer (told position outcome) in
+    let stores : List (ℕ × ℕ) = answer (receipt_of position outcome) in
     let to : ℕ × ℕ = get_or stores stored (0, 0) in
     let there = slice_get-get_or stores stored (0, 0) s.1.more in
     let P : Action → Type 0 = λ a. Acted step m words lane (made lane a past) (length stores - stored - 1) in

@@ -6,7 +6,7 @@ use Rattle.std.proofs.lemmas.Option.{none-some, same_Some, slice_get-map}
 use Rattle.std.specs.List.{slice_get}
 use Rattle.std.specs.Option.{option_map}
 use Rattle.mm_base.specs.Numbers.{bytes_of_words}
-use Rattle.mm_base.specs.Receipt.{told}
+use Rattle.mm_base.specs.Receipt.{receipt_of}
 use Rattle.mm_base.specs.Replay.{replayed, left_by}
 use Rattle.mm_base.specs.declared.cells.Saved.{Saved}
 use Rattle.mm_base.specs.declared.entry.Entry.{Entry}
@@ -300,12 +300,12 @@ tells_next step m words l past (Capturing len values) s t =
     ]
 tells_next step m words l past (Answering len values position outcome stored) s t =
     let P : Option Action → Type 0 = λ a. Tells (made l (unwrap_or a Rest) past) in
-    subst P (sym (slice_get-map store (answer (told position outcome)) stored)) (by (slice_get (answer (told position outcome)) stored))
+    subst P (sym (slice_get-map store (answer (receipt_of position outcome)) stored)) (by (slice_get (answer (receipt_of position outcome)) stored))
   where
     by : (next_store : Option (ℕ × ℕ)) → Tells (made l (unwrap_or (option_map store next_store) Rest) past)
     by None = t
     by (Some (word, value)) =
-        tells_store l word value past (answered l len values position (take stored (answer (told position outcome)))) s.0.older s.0.split t
+        tells_store l word value past (answered l len values position (take stored (answer (receipt_of position outcome)))) s.0.older s.0.split t
 
 -- each lane has a place, and the past tells its entries
 record Kept {M : Type 0} (step : M → Request → Outcome × M) (m : M) (words : ℕ) (past : List Mark) : Type 0 where
@@ -377,9 +377,9 @@ turned_once words outs lane past (Capturing len values) k piece position s h t =
     (λ e. absurd (none-some position (sym (turn_in-made lane 2 values) ∙ ap turn_in e ∙ t)))
 turned_once words outs lane past (Answering len values at outcome stored) k piece position s h t =
     let P : List Trace → Type 0 = λ p. LoadsOnce words p in
-    newest_or_older words outs lane (answered lane len values at (take stored (answer (told at outcome)))) s.0.older k piece s.0.before
+    newest_or_older words outs lane (answered lane len values at (take stored (answer (receipt_of at outcome)))) s.0.older k piece s.0.before
     (ap (λ ps. slice_get ps k) (sym s.0.split) ∙ h)
-    (λ e. subst P e (loads_answered words lane len values at (take stored (answer (told at outcome))) s.1.enough))
+    (λ e. subst P e (loads_answered words lane len values at (take stored (answer (receipt_of at outcome))) s.1.enough))
 
 -- the requests of a replay are those that were replayed
 requests_replayed : {M : Type 0} (step : M → Request → Outcome × M) (m : M) (rs : List Request) → requests_of (replayed step m rs) ≡ rs
@@ -403,7 +403,7 @@ captured_once step m words past position entry k h =
     let p = k.placed lane in
     let begins = each_begins words outs lane past p.place e.place e.piece p.stands e.there in
     let length_is : length_in e.piece ≡ entry.request.length = sym (ap (λ (r : Request). r.length) e.request_is) in
-    let receipt_is : receipt_at outs (turn_in e.piece) ≡ Some (told position entry.outcome) =
+    let receipt_is : receipt_at outs (turn_in e.piece) ≡ Some (receipt_of position entry.outcome) =
     ap (receipt_at outs) e.turn ∙ receipt_at-told outs position entry.outcome (outcome_at (replayed step m rs) position entry h) in
     record {
       place = e.place;
@@ -412,7 +412,7 @@ captured_once step m words past position entry k h =
       turn = e.turn;
       request = e.request_is;
       once = turned_once words outs lane past p.place e.place e.piece position p.stands e.there e.turn;
-      in_order = ap (λ actions. take (length (map action_of e.piece)) actions) (ap (λ n. whole words n (Some (told position entry.outcome))) (sym length_is) ∙ ap (whole words (length_in e.piece)) (sym receipt_is)) ∙ begins;
+      in_order = ap (λ actions. take (length (map action_of e.piece)) actions) (ap (λ n. whole words n (Some (receipt_of position entry.outcome))) (sym length_is) ∙ ap (whole words (length_in e.piece)) (sym receipt_is)) ∙ begins;
     }
 
 -- each piece behind the newest was served whole

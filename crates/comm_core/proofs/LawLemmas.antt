@@ -3,7 +3,7 @@ use Rattle.std.proofs.Common.{◌≡◌, ◌≤◌, ◌<◌, ℕ, zero, suc, ◌
 use Rattle.std.proofs.Math.Seq.{take-length}
 use Rattle.std.proofs.lemmas.Bool.{cases_lt, eq-eqb, eqb-true, eqb-false, ne_eqb}
 use Rattle.std.specs.List.{slice_get}
-use Rattle.mm_base.specs.Receipt.{told}
+use Rattle.mm_base.specs.Receipt.{receipt_of}
 use Rattle.mm_base.specs.declared.entry.Outcome.{Outcome}
 use Rattle.mm_base.specs.declared.entry.Request.{Request}
 use Rattle.mm_base.specs.declared.receipt.Receipt.{Receipt}
@@ -121,7 +121,7 @@ loads_answered words lane len values position stores enough = record {
 -- a whole piece is served
 pub served : (words : ℕ) (outs : List Outcome) (lane : ℕ) (piece : List Trace) → IsWhole words outs lane piece → IsServed words outs piece
 served words outs lane piece w =
-    let receipt : Receipt = told w.position w.outcome in
+    let receipt : Receipt = receipt_of w.position w.outcome in
     let stores : List (ℕ × ℕ) = answer receipt in
     let P : List Trace → Type 0 = λ p. IsServed words outs p in
     subst P (sym w.records)
@@ -155,7 +155,7 @@ whole_of_rest words outs lane past (Capturing len values) k piece s h r =
     (ap is_rest (next_in-captured words outs lane len values s.1) ∙ capturing_busy words len values)
     (ap (λ ps. slice_get ps k) (sym s.0.split) ∙ h) r
 whole_of_rest words outs lane past (Answering len values position outcome stored) k piece s h r =
-    whole_older words outs lane (answered lane len values position (take stored (answer (told position outcome)))) s.0.older k piece s.0.before
+    whole_older words outs lane (answered lane len values position (take stored (answer (receipt_of position outcome)))) s.0.older k piece s.0.before
     (ap is_rest (answering_next words outs lane past len values position outcome stored s.1) ∙ answering_busy words outs len values position outcome stored s.1)
     (ap (λ ps. slice_get ps k) (sym s.0.split) ∙ h) r
 
@@ -211,9 +211,9 @@ map-split f xs zero = refl
 map-split f [] (suc n) = refl
 map-split f (x ∷ xs) (suc n) = ap (λ ys. f x ∷ ys) (map-split f xs n)
 
-begins_answered : (words : ℕ) (outs : List Outcome) (lane len : ℕ) (values : List ℕ) (position : ℕ) (outcome : Outcome) (stored : ℕ) → length values ≡ needed words len → slice_get outs position ≡ Some outcome → BeginsWhole words outs (answered lane len values position (take stored (answer (told position outcome))))
+begins_answered : (words : ℕ) (outs : List Outcome) (lane len : ℕ) (values : List ℕ) (position : ℕ) (outcome : Outcome) (stored : ℕ) → length values ≡ needed words len → slice_get outs position ≡ Some outcome → BeginsWhole words outs (answered lane len values position (take stored (answer (receipt_of position outcome))))
 begins_answered words outs lane len values position outcome stored enough told_so =
-    let stores : List (ℕ × ℕ) = answer (told position outcome) in
+    let stores : List (ℕ × ℕ) = answer (receipt_of position outcome) in
     let front : List (ℕ × ℕ) = take stored stores in
     let rest : List Action = map store (drop stored stores) in
     let is : whole words len (receipt_at outs (turn_in (answered lane len values position front))) ≡ map action_of (answered lane len values position front) ++ rest =
@@ -238,7 +238,7 @@ each_begins words outs lane past (Capturing len values) k piece s h =
     begins_older words outs lane (captured lane len values) s.0.older k piece s.0.before (begins_captured words outs lane len values s.1)
     (ap (λ ps. slice_get ps k) (sym s.0.split) ∙ h)
 each_begins words outs lane past (Answering len values position outcome stored) k piece s h =
-    begins_older words outs lane (answered lane len values position (take stored (answer (told position outcome)))) s.0.older k piece s.0.before
+    begins_older words outs lane (answered lane len values position (take stored (answer (receipt_of position outcome)))) s.0.older k piece s.0.before
     (begins_answered words outs lane len values position outcome stored s.1.enough s.1.told_so)
     (ap (λ ps. slice_get ps k) (sym s.0.split) ∙ h)
 

@@ -4,7 +4,7 @@ use Rattle.std.proofs.lemmas.List.{length-map}
 use Rattle.std.specs.List.{slice_get}
 use Rattle.std.specs.Option.{option_map}
 use Rattle.std.proofs.lemmas.Bool.{cases_lt, lt-ltb, le-ltb}
-use Rattle.mm_base.specs.Receipt.{told}
+use Rattle.mm_base.specs.Receipt.{receipt_of}
 use Rattle.mm_base.specs.declared.entry.Outcome.{Outcome}
 use Rattle.comm_core.specs.Piece.{needed, loads, store, answer, whole, loaded, turn_in, receipt_at, next_in}
 use Rattle.comm_core.specs.Standing.{loads_made, captured, answered, next_at}
@@ -91,8 +91,8 @@ next_in-captured words outs lane len values h =
     ∙ capture_at (needed words len) (length values) h
 
 -- the receipt of a piece's turn
-pub receipt_at-told : (outs : List Outcome) (position : ℕ) (outcome : Outcome) → slice_get outs position ≡ Some outcome → receipt_at outs (Some position) ≡ Some (told position outcome)
-receipt_at-told outs position outcome h = ap (option_map (told position)) h
+pub receipt_at-told : (outs : List Outcome) (position : ℕ) (outcome : Outcome) → slice_get outs position ≡ Some outcome → receipt_at outs (Some position) ≡ Some (receipt_of position outcome)
+receipt_at-told outs position outcome h = ap (option_map (receipt_of position)) h
 
 pub turn_in-answered : (lane len : ℕ) (values : List ℕ) (position : ℕ) (stores : List (ℕ × ℕ)) → turn_in (answered lane len values position stores) ≡ Some position
 turn_in-answered lane len values position stores = turn_in-loads_made lane 2 values (Turned lane position ∷ map (λ to. Stored lane to.0 to.1) stores)
@@ -105,10 +105,10 @@ length-answered lane len values position stores =
     ∙ ap (λ n. length values + suc n) (length-map stores (λ to. Stored lane to.0 to.1)))
 
 -- behind the turn a piece has the stores that are left
-pub next_in-answered : (words : ℕ) (outs : List Outcome) (lane len : ℕ) (values : List ℕ) (position : ℕ) (outcome : Outcome) (stores : List (ℕ × ℕ)) → length values ≡ needed words len → slice_get outs position ≡ Some outcome → next_in words outs (answered lane len values position stores) ≡ unwrap_or (slice_get (map store (answer (told position outcome))) (length stores)) Rest
+pub next_in-answered : (words : ℕ) (outs : List Outcome) (lane len : ℕ) (values : List ℕ) (position : ℕ) (outcome : Outcome) (stores : List (ℕ × ℕ)) → length values ≡ needed words len → slice_get outs position ≡ Some outcome → next_in words outs (answered lane len values position stores) ≡ unwrap_or (slice_get (map store (answer (receipt_of position outcome))) (length stores)) Rest
 next_in-answered words outs lane len values position outcome stores enough told_so =
     let n : ℕ = needed words len in
-    let rest : List Action = Turn ∷ map store (answer (told position outcome)) in
+    let rest : List Action = Turn ∷ map store (answer (receipt_of position outcome)) in
     ap (λ t. unwrap_or (slice_get (whole words len (receipt_at outs t)) (length (answered lane len values position stores))) Rest)
     (turn_in-answered lane len values position stores)
     ∙ ap (λ r. unwrap_or (slice_get (whole words len r) (length (answered lane len values position stores))) Rest) (receipt_at-told outs position outcome told_so)

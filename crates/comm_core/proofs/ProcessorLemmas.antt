@@ -2,7 +2,7 @@
 use Rattle.std.proofs.Common.{◌≡◌, ◌≤◌, ℕ, ◌+◌, ◌*◌, ◌==◌, ◌&&◌, ◌≢◌, nat_le, true, false, if◌then◌else◌, length, refl, ap, ◌∙◌, arith, length-append}
 use Rattle.std.proofs.lemmas.Bool.{eqb-false, leb-true}
 use Rattle.mm_base.specs.Numbers.{bytes_of_word, words_for}
-use Rattle.mm_base.specs.Prepared.{Readied}
+use Rattle.mm_base.specs.Prepared.{PreparedState}
 use Rattle.mm_base.specs.declared.receipt.Receipt.{Receipt}
 use Rattle.comm_core.specs.Piece.{needed, answer}
 use Rattle.comm_core.specs.Processor.{to_come, behind_fed, behind_load, behind_store, IsSound, IsBlank, IsAnswering, MayRing, MayAnswer, MayFeed, MayLoad, MayFeedSoundly, MayLoadSoundly, MayStoreSoundly}
@@ -67,7 +67,7 @@ store_sound words (Storing receipt stored) s =
       | false ↦ λ e. let other : stored + 1 ≢ length (answer receipt) = eqb-false (stored + 1) (length (answer receipt)) e in record { more = omega (arith, s.more); fits = s.fits }
     ] refl
 
-ring_sound : (words : ℕ) (stage : Stage) (prepared : Readied) → MayRing words stage prepared → IsBlank words prepared
+ring_sound : (words : ℕ) (stage : Stage) (prepared : PreparedState) → MayRing words stage prepared → IsBlank words prepared
 ring_sound words Resting prepared m = m
 ring_sound words (Rung p saved) prepared m = absurd m
 ring_sound words (Loading p saved len loaded) prepared m = absurd m

@@ -7,8 +7,8 @@ use Rattle.std.proofs.lemmas.Bool.{ltb-true, ltb-false}
 use Rattle.std.proofs.lemmas.List.{length-replicate}
 use Rattle.std.proofs.lemmas.Option.{slice_get-map, slice_get-get_or, slice_get_within, get_or_from_slice_get}
 use Rattle.mm_base.specs.Numbers.{words_for, words_of_bytes}
-use Rattle.mm_base.specs.Room.{Roomy}
-use Rattle.mm_base.specs.Prepared.{Readied, Suffices}
+use Rattle.mm_base.specs.Room.{RoomState}
+use Rattle.mm_base.specs.Prepared.{PreparedState, Suffices}
 use Rattle.mm_base.specs.declared.cells.Saved.{Saved}
 use Rattle.mm_base.specs.declared.receipt.Receipt.{Receipt}
 use Rattle.comm_core.specs.Capture.{longest}
@@ -122,14 +122,14 @@ found_there words lanes lane at a there ws e =
     ∙ ap (λ (n : ℕ). next_action n at.processor.stage) (sym ws) ∙ sym e
 
 -- a record finds its room where more records of some lane are to come
-pub room_for : (words : ℕ) (lanes : List LaneState) (calls n : ℕ) (t : Roomy Trace) (lane : ℕ) (at : LaneState) → IsReady words lanes calls n t → slice_get lanes lane ≡ Some at → 1 ≤ to_come words at.processor.stage → length t.items < t.room
+pub room_for : (words : ℕ) (lanes : List LaneState) (calls n : ℕ) (t : RoomState Trace) (lane : ℕ) (at : LaneState) → IsReady words lanes calls n t → slice_get lanes lane ≡ Some at → 1 ≤ to_come words at.processor.stage → length t.items < t.room
 room_for words lanes calls n t lane at r there more =
     omega (arith, r.records, part_of_sum (λ (x : LaneState). to_come words x.processor.stage) lanes lane at there, more)
 
 -- a world stays ready where one lane makes a record
-ready_made : (words : ℕ) (lanes : List LaneState) (calls n now_n : ℕ) (t u : Roomy Trace) (made : Trace) (lane : ℕ) (at acted : LaneState) → IsReady words lanes calls n t → slice_get lanes lane ≡ Some at → IsLaneReady words calls lane acted → to_come words acted.processor.stage + 1 ≤ to_come words at.processor.stage → now_n + turns_to_come acted.processor.stage ≤ n + turns_to_come at.processor.stage → u ≡ record { items = t.items ++ made ∷ []; room = t.room } → IsReady words (slice_set lanes lane acted) calls now_n u
+ready_made : (words : ℕ) (lanes : List LaneState) (calls n now_n : ℕ) (t u : RoomState Trace) (made : Trace) (lane : ℕ) (at acted : LaneState) → IsReady words lanes calls n t → slice_get lanes lane ≡ Some at → IsLaneReady words calls lane acted → to_come words acted.processor.stage + 1 ≤ to_come words at.processor.stage → now_n + turns_to_come acted.processor.stage ≤ n + turns_to_come at.processor.stage → u ≡ record { items = t.items ++ made ∷ []; room = t.room } → IsReady words (slice_set lanes lane acted) calls now_n u
 ready_made words lanes calls n now_n t u made lane at acted r there ready less turns ue =
-    let Q : Roomy Trace → Type 0 = λ y. IsReady words (slice_set lanes lane acted) calls now_n y in
+    let Q : RoomState Trace → Type 0 = λ y. IsReady words (slice_set lanes lane acted) calls now_n y in
     subst Q (sym ue) record {
       low = r.low;
       high = r.high;
@@ -139,12 +139,12 @@ ready_made words lanes calls n now_n t u made lane at acted r there ready less t
       turns_fit = omega (arith, r.turns_fit, turns, sum_changed (λ (x : LaneState). turns_to_come x.processor.stage) lanes lane at acted there);
     }
 
-pub room_for_load : (words : ℕ) (lanes : List LaneState) (calls n : ℕ) (t : Roomy Trace) (lane : ℕ) (at : LaneState) (word : ℕ) → IsReady words lanes calls n t → slice_get lanes lane ≡ Some at → next_action words at.processor.stage ≡ Load word → length t.items < t.room
+pub room_for_load : (words : ℕ) (lanes : List LaneState) (calls n : ℕ) (t : RoomState Trace) (lane : ℕ) (at : LaneState) (word : ℕ) → IsReady words lanes calls n t → slice_get lanes lane ≡ Some at → next_action words at.processor.stage ≡ Load word → length t.items < t.room
 room_for_load words lanes calls n t lane at word r there e =
     room_for words lanes calls n t lane at r there (omega (arith, load_counts words word 0 at.processor.stage e))
 
 -- a world stays ready behind a load
-pub ready_load : (words : ℕ) (lanes : List LaneState) (calls n : ℕ) (t u : Roomy Trace) (made : Trace) (lane : ℕ) (at acted : LaneState) (word : ℕ) → IsReady words lanes calls n t → slice_get lanes lane ≡ Some at → next_action words at.processor.stage ≡ Load word → acted ≡ lane_loaded at word → u ≡ record { items = t.items ++ made ∷ []; room = t.room } → IsReady words (slice_set lanes lane acted) calls n u
+pub ready_load : (words : ℕ) (lanes : List LaneState) (calls n : ℕ) (t u : RoomState Trace) (made : Trace) (lane : ℕ) (at acted : LaneState) (word : ℕ) → IsReady words lanes calls n t → slice_get lanes lane ≡ Some at → next_action words at.processor.stage ≡ Load word → acted ≡ lane_loaded at word → u ≡ record { items = t.items ++ made ∷ []; room = t.room } → IsReady words (slice_set lanes lane acted) calls n u
 ready_load words lanes calls n t u made lane at acted word r there e ae ue =
     let P : LaneState → Type 0 = λ x. IsReady words (slice_set lanes lane x) calls n u in
     let own = r.each lane at there in
@@ -201,11 +201,11 @@ store_turns (Turning bytes) = refl
 store_turns (Storing receipt stored) =
     elim (stored + 1 == length (answer receipt)) as (λ b. turns_to_come (if b then Resting else Storing receipt (stored + 1)) ≡ 0) [ true ↦ refl | false ↦ refl ]
 
-pub room_for_store : (words : ℕ) (lanes : List LaneState) (calls n : ℕ) (t : Roomy Trace) (lane : ℕ) (at : LaneState) (word value : ℕ) → IsReady words lanes calls n t → slice_get lanes lane ≡ Some at → next_action words at.processor.stage ≡ Store word value → length t.items < t.room
+pub room_for_store : (words : ℕ) (lanes : List LaneState) (calls n : ℕ) (t : RoomState Trace) (lane : ℕ) (at : LaneState) (word value : ℕ) → IsReady words lanes calls n t → slice_get lanes lane ≡ Some at → next_action words at.processor.stage ≡ Store word value → length t.items < t.room
 room_for_store words lanes calls n t lane at word value r there e =
     room_for words lanes calls n t lane at r there (omega (arith, store_counts words word value at.processor.stage e))
 
-pub ready_store : (words : ℕ) (lanes : List LaneState) (calls n : ℕ) (t u : Roomy Trace) (made : Trace) (lane : ℕ) (at acted : LaneState) (word value : ℕ) → IsReady words lanes calls n t → slice_get lanes lane ≡ Some at → next_action words at.processor.stage ≡ Store word value → acted ≡ lane_stored at word value → u ≡ record { items = t.items ++ made ∷ []; room = t.room } → IsReady words (slice_set lanes lane acted) calls n u
+pub ready_store : (words : ℕ) (lanes : List LaneState) (calls n : ℕ) (t u : RoomState Trace) (made : Trace) (lane : ℕ) (at acted : LaneState) (word value : ℕ) → IsReady words lanes calls n t → slice_get lanes lane ≡ Some at → next_action words at.processor.stage ≡ Store word value → acted ≡ lane_stored at word value → u ≡ record { items = t.items ++ made ∷ []; room = t.room } → IsReady words (slice_set lanes lane acted) calls n u
 ready_store words lanes calls n t u made lane at acted word value r there e ae ue =
     let P : LaneState → Type 0 = λ x. IsReady words (slice_set lanes lane x) calls n u in
     let own = r.each lane at there in
@@ -220,17 +220,17 @@ ready_store words lanes calls n t u made lane at acted word value r there e ae u
     (omega (arith, store_turns at.processor.stage)) ue)
 
 -- how many records are to come, as the code counts them
-pub left_is : (words : ℕ) (lanes : List LaneState) (calls n : ℕ) (t : Roomy Trace) → IsReady words lanes calls n t → records_left lanes ≡ sum_by (λ (x : LaneState). to_come words x.processor.stage) lanes
+pub left_is : (words : ℕ) (lanes : List LaneState) (calls n : ℕ) (t : RoomState Trace) → IsReady words lanes calls n t → records_left lanes ≡ sum_by (λ (x : LaneState). to_come words x.processor.stage) lanes
 left_is words lanes calls n t r =
     same_sum (λ (x : LaneState). to_come x.processor.words x.processor.stage) (λ (x : LaneState). to_come words x.processor.stage) lanes
     (λ k x here. ap (λ w. to_come w x.processor.stage) (r.each k x here).words_are)
 
 -- a world is ready behind a poke
-pub ready_poke : (words : ℕ) (lanes : List LaneState) (calls n left : ℕ) (t reserved u : Roomy Trace) (made : Trace) (lane : ℕ) (at acted : LaneState) (word value : ℕ) → IsReady words lanes calls n t → slice_get lanes lane ≡ Some at → acted ≡ lane_poked at word value → left ≡ records_left lanes → reserved ≡ record { items = t.items; room = max t.room (length t.items + (left + 1)) } → u ≡ record { items = reserved.items ++ made ∷ []; room = reserved.room } → IsReady words (slice_set lanes lane acted) calls n u
+pub ready_poke : (words : ℕ) (lanes : List LaneState) (calls n left : ℕ) (t reserved u : RoomState Trace) (made : Trace) (lane : ℕ) (at acted : LaneState) (word value : ℕ) → IsReady words lanes calls n t → slice_get lanes lane ≡ Some at → acted ≡ lane_poked at word value → left ≡ records_left lanes → reserved ≡ record { items = t.items; room = max t.room (length t.items + (left + 1)) } → u ≡ record { items = reserved.items ++ made ∷ []; room = reserved.room } → IsReady words (slice_set lanes lane acted) calls n u
 ready_poke words lanes calls n left t reserved u made lane at acted word value r there ae le re ue =
     let P : LaneState → Type 0 = λ x. IsReady words (slice_set lanes lane x) calls n u in
     let now : LaneState = lane_poked at word value in
-    let Q : Roomy Trace → Type 0 = λ y. IsReady words (slice_set lanes lane now) calls n y in
+    let Q : RoomState Trace → Type 0 = λ y. IsReady words (slice_set lanes lane now) calls n y in
     let own = r.each lane at there in
     let ready : IsLaneReady words calls lane now = record {
       number = own.number;
@@ -238,7 +238,7 @@ ready_poke words lanes calls n left t reserved u made lane at acted word value r
       size = length-set at.values word value ∙ own.size;
       memory = own.memory;
     } in
-    let room = ue ∙ ap (λ (x : Roomy Trace). record { items = x.items ++ made ∷ []; room = x.room }) re in
+    let room = ue ∙ ap (λ (x : RoomState Trace). record { items = x.items ++ made ∷ []; room = x.room }) re in
     subst P (sym ae) (subst Q (sym room) record {
       low = r.low;
       high = r.high;
@@ -309,23 +309,23 @@ may_take words calls (Turning bytes) r e = absurd r
 may_take words calls (Storing receipt stored) r e = absurd (never_turn _ (next_is_store (answer receipt) stored) e)
 
 -- the memory that is handed out at the turn has place for whatever the machine answers
-pub suffices : (words calls lane : ℕ) (stage : Stage) (p : Readied) → HasRoom words calls stage → next_action words stage ≡ Turn → p ≡ sealed lane stage p → length p.entry.request.bytes ≤ 8 * words → Suffices calls p × (length p.entry.request.bytes ≤ p.second)
+pub suffices : (words calls lane : ℕ) (stage : Stage) (p : PreparedState) → HasRoom words calls stage → next_action words stage ≡ Turn → p ≡ sealed lane stage p → length p.entry.request.bytes ≤ 8 * words → Suffices calls p × (length p.entry.request.bytes ≤ p.second)
 suffices words calls lane Resting p r e s b = absurd cc
 suffices words calls lane (Rung prepared saved) p r e s b = absurd cc
 suffices words calls lane (Loading prepared saved len loaded) p r e s b =
-    let c : p.calls ≡ prepared.calls = ap (λ (x : Readied). x.calls) s in
-    let y : p.reply ≡ prepared.reply = ap (λ (x : Readied). x.reply) s in
-    let z : p.second ≡ prepared.second = ap (λ (x : Readied). x.second) s in
+    let c : p.calls ≡ prepared.calls = ap (λ (x : PreparedState). x.calls) s in
+    let y : p.reply ≡ prepared.reply = ap (λ (x : PreparedState). x.reply) s in
+    let z : p.second ≡ prepared.second = ap (λ (x : PreparedState). x.second) s in
     (record { calls = omega (arith, c, r.calls_fit); reply = omega (arith, y, b, r.reply); second = omega (arith, z, b, r.second) }, omega (arith, z, b, r.second))
 suffices words calls lane (Turning bytes) p r e s b = absurd r
 suffices words calls lane (Storing receipt stored) p r e s b = absurd (never_turn _ (next_is_store (answer receipt) stored) e)
 
 -- the request that is handed out is the one that was captured
-pub request_asked : (words calls number lane : ℕ) (stage : Stage) (p : Readied) → HasRoom words calls stage → next_action words stage ≡ Turn → number ≡ lane → p ≡ sealed number stage p → p.entry.request ≡ asked lane stage
+pub request_asked : (words calls number lane : ℕ) (stage : Stage) (p : PreparedState) → HasRoom words calls stage → next_action words stage ≡ Turn → number ≡ lane → p ≡ sealed number stage p → p.entry.request ≡ asked lane stage
 request_asked words calls number lane Resting p r e l s = absurd cc
 request_asked words calls number lane (Rung prepared saved) p r e l s = absurd cc
 request_asked words calls number lane (Loading prepared saved len loaded) p r e l s =
-    ap (λ (x : Readied). x.entry.request) s
+    ap (λ (x : PreparedState). x.entry.request) s
     ∙ ap (λ n. record { lane = n; length = len; bytes = take len prepared.captured.items; saved = saved }) l
 request_asked words calls number lane (Turning bytes) p r e l s = absurd r
 request_asked words calls number lane (Storing receipt stored) p r e l s = absurd (never_turn _ (next_is_store (answer receipt) stored) e)
@@ -337,12 +337,12 @@ turn_counts words calls (Loading prepared saved len loaded) r e = (omega arith, 
 turn_counts words calls (Turning bytes) r e = absurd r
 turn_counts words calls (Storing receipt stored) r e = absurd (never_turn _ (next_is_store (answer receipt) stored) e)
 
-pub room_for_turn : (words : ℕ) (lanes : List LaneState) (calls n : ℕ) (t : Roomy Trace) (lane : ℕ) (at : LaneState) → IsReady words lanes calls n t → slice_get lanes lane ≡ Some at → next_action words at.processor.stage ≡ Turn → length t.items < t.room
+pub room_for_turn : (words : ℕ) (lanes : List LaneState) (calls n : ℕ) (t : RoomState Trace) (lane : ℕ) (at : LaneState) → IsReady words lanes calls n t → slice_get lanes lane ≡ Some at → next_action words at.processor.stage ≡ Turn → length t.items < t.room
 room_for_turn words lanes calls n t lane at r there e =
     room_for words lanes calls n t lane at r there (omega (arith, (turn_counts words calls at.processor.stage (r.each lane at there).memory e).0))
 
 -- a world stays ready behind a turn
-pub ready_turn : (words : ℕ) (lanes : List LaneState) (calls now_calls n now_n : ℕ) (t u : Roomy Trace) (made : Trace) (lane : ℕ) (at acted : LaneState) (receipt : Receipt) → IsReady words lanes calls n t → slice_get lanes lane ≡ Some at → next_action words at.processor.stage ≡ Turn → length receipt.bytes ≤ 8 * words → now_calls ≡ calls → now_n ≡ n + 1 → acted ≡ lane_answered at receipt → u ≡ record { items = t.items ++ made ∷ []; room = t.room } → IsReady words (slice_set lanes lane acted) now_calls now_n u
+pub ready_turn : (words : ℕ) (lanes : List LaneState) (calls now_calls n now_n : ℕ) (t u : RoomState Trace) (made : Trace) (lane : ℕ) (at acted : LaneState) (receipt : Receipt) → IsReady words lanes calls n t → slice_get lanes lane ≡ Some at → next_action words at.processor.stage ≡ Turn → length receipt.bytes ≤ 8 * words → now_calls ≡ calls → now_n ≡ n + 1 → acted ≡ lane_answered at receipt → u ≡ record { items = t.items ++ made ∷ []; room = t.room } → IsReady words (slice_set lanes lane acted) now_calls now_n u
 ready_turn words lanes calls now_calls n now_n t u made lane at acted receipt r there e b ce ne ae ue =
     let P : LaneState → Type 0 = λ x. IsReady words (slice_set lanes lane x) now_calls now_n u in
     let Q : ℕ → Type 0 = λ k. IsReady words (slice_set lanes lane (lane_answered at receipt)) k now_n u in
@@ -368,7 +368,7 @@ rest_resting words (Storing receipt stored) s e =
     absurd cc
 
 -- a resting processor may be rung
-pub may_ring : (words : ℕ) (stage : Stage) (prepared : Readied) → is_resting stage ≡ true → IsBlank words prepared → MayRing words stage prepared
+pub may_ring : (words : ℕ) (stage : Stage) (prepared : PreparedState) → is_resting stage ≡ true → IsBlank words prepared → MayRing words stage prepared
 may_ring words Resting prepared e b = b
 may_ring words (Rung p saved) prepared e b = absurd cc
 may_ring words (Loading p saved len loaded) prepared e b = absurd cc
@@ -376,11 +376,11 @@ may_ring words (Turning bytes) prepared e b = absurd cc
 may_ring words (Storing receipt stored) prepared e b = absurd cc
 
 -- a world is ready behind an accepted ring
-pub ready_ring : (words : ℕ) (lanes : List LaneState) (calls n left most : ℕ) (t u : Roomy Trace) (lane : ℕ) (at acted : LaneState) (prepared : Readied) (saved : Saved) → IsReady words lanes calls n t → slice_get lanes lane ≡ Some at → is_resting at.processor.stage ≡ true → n < 2 ^ 32 → IsRoomy words calls prepared → acted ≡ lane_rung at prepared saved → left ≡ records_left lanes → most ≡ longest words → u ≡ record { items = t.items; room = max t.room (length t.items + (left + most)) } → IsReady words (slice_set lanes lane acted) calls n u
+pub ready_ring : (words : ℕ) (lanes : List LaneState) (calls n left most : ℕ) (t u : RoomState Trace) (lane : ℕ) (at acted : LaneState) (prepared : PreparedState) (saved : Saved) → IsReady words lanes calls n t → slice_get lanes lane ≡ Some at → is_resting at.processor.stage ≡ true → n < 2 ^ 32 → IsRoomy words calls prepared → acted ≡ lane_rung at prepared saved → left ≡ records_left lanes → most ≡ longest words → u ≡ record { items = t.items; room = max t.room (length t.items + (left + most)) } → IsReady words (slice_set lanes lane acted) calls n u
 ready_ring words lanes calls n left most t u lane at acted prepared saved r there e few roomy ae le me ue =
     let P : LaneState → Type 0 = λ x. IsReady words (slice_set lanes lane x) calls n u in
     let now : LaneState = lane_rung at prepared saved in
-    let Q : Roomy Trace → Type 0 = λ y. IsReady words (slice_set lanes lane now) calls n y in
+    let Q : RoomState Trace → Type 0 = λ y. IsReady words (slice_set lanes lane now) calls n y in
     let own = r.each lane at there in
     let ready : IsLaneReady words calls lane now = record { number = own.number; words_are = own.words_are; size = own.size; memory = roomy } in
     let counted : length (slice_set lanes lane now) ≡ length lanes = length-set lanes lane now in

@@ -8,7 +8,7 @@ use Rattle.std.specs.Option.{option_map}
 use Rattle.std.proofs.lemmas.Bool.{eq-eqb, ne_eqb}
 use Rattle.mm_base.specs.Numbers.{words_of_bytes}
 use Rattle.mm_base.specs.declared.receipt.Receipt.{Receipt}
-use Rattle.mm_base.specs.Receipt.{told}
+use Rattle.mm_base.specs.Receipt.{receipt_of}
 use Rattle.mm_base.specs.declared.entry.Outcome.{Outcome}
 use Rattle.mm_base.specs.declared.cells.Saved.{Saved}
 use Rattle.comm_core.specs.Piece.{needed, store, answer, from_word, next_in}
@@ -23,7 +23,7 @@ use Rattle.comm_core.proofs.PieceLemmas.{slice_get-front, slice_get-behind, load
 -- a whole piece has nothing next
 pub whole_rests : (words : ℕ) (outs : List Outcome) (lane : ℕ) (piece : List Trace) → IsWhole words outs lane piece → next_in words outs piece ≡ Rest
 whole_rests words outs lane piece w =
-    let stores : List (ℕ × ℕ) = answer (told w.position w.outcome) in
+    let stores : List (ℕ × ℕ) = answer (receipt_of w.position w.outcome) in
     ap (next_in words outs) w.records ∙ next_in-answered words outs lane w.len w.values w.position w.outcome stores w.enough w.told_so
     ∙ ap (λ o. unwrap_or o Rest) (slice_get_past (map store stores) (length stores) (rw (length-map stores store) (omega arith)))
 
@@ -33,7 +33,7 @@ whole_rest words outs lane (piece ∷ older) w =
     ap (λ a. is_rest a && list_all (λ p. is_rest (next_in words outs p)) older) (whole_rests words outs lane piece w.0)
     ∙ whole_rest words outs lane older w.1
 
--- outcomes that are told stay told
+-- outcomes that are receipt_of stay receipt_of
 pub told_stays : (outs more : List Outcome) (position : ℕ) (outcome : Outcome) → slice_get outs position ≡ Some outcome → slice_get (outs ++ more) position ≡ Some outcome
 told_stays outs more position outcome h = slice_get-front outs more position (slice_get_within outs position outcome h) ∙ h
 
@@ -83,22 +83,22 @@ pub capturing_busy : (words len : ℕ) (values : List ℕ) → is_rest (next_at 
 capturing_busy words len values = elim (nat_lt (length values) (needed words len)) as (λ b. is_rest (if b then Load (2 + length values) else Turn) ≡ false) [ true ↦ refl | false ↦ refl ]
 
 -- the store that is next
-pub next_store : (words len : ℕ) (values : List ℕ) (position : ℕ) (outcome : Outcome) (stored : ℕ) (to : ℕ × ℕ) → slice_get (answer (told position outcome)) stored ≡ Some to → next_at words (Answering len values position outcome stored) ≡ store to
+pub next_store : (words len : ℕ) (values : List ℕ) (position : ℕ) (outcome : Outcome) (stored : ℕ) (to : ℕ × ℕ) → slice_get (answer (receipt_of position outcome)) stored ≡ Some to → next_at words (Answering len values position outcome stored) ≡ store to
 next_store words len values position outcome stored to h =
-    ap (λ o. unwrap_or o Rest) (slice_get-map store (answer (told position outcome)) stored ∙ ap (option_map store) h)
+    ap (λ o. unwrap_or o Rest) (slice_get-map store (answer (receipt_of position outcome)) stored ∙ ap (option_map store) h)
 
 length-take_front : {X : Type 0} (xs : List X) (n : ℕ) → n ≤ length xs → length (take n xs) ≡ n
 length-take_front xs n h = length-take n xs ∙ omega arith
 
-pub answering_next : (words : ℕ) (outs : List Outcome) (lane : ℕ) (past : List Mark) (len : ℕ) (values : List ℕ) (position : ℕ) (outcome : Outcome) (stored : ℕ) → IsTold words outs len values position outcome stored → next_in words outs (answered lane len values position (take stored (answer (told position outcome)))) ≡ next_at words (Answering len values position outcome stored)
+pub answering_next : (words : ℕ) (outs : List Outcome) (lane : ℕ) (past : List Mark) (len : ℕ) (values : List ℕ) (position : ℕ) (outcome : Outcome) (stored : ℕ) → IsTold words outs len values position outcome stored → next_in words outs (answered lane len values position (take stored (answer (receipt_of position outcome)))) ≡ next_at words (Answering len values position outcome stored)
 answering_next words outs lane past len values position outcome stored t =
-    let stores : List (ℕ × ℕ) = answer (told position outcome) in
+    let stores : List (ℕ × ℕ) = answer (receipt_of position outcome) in
     next_in-answered words outs lane len values position outcome (take stored stores) t.enough t.told_so
     ∙ ap (λ n. unwrap_or (slice_get (map store stores) n) Rest) (length-take_front stores stored (omega (arith, t.more)))
 
 pub answering_busy : (words : ℕ) (outs : List Outcome) (len : ℕ) (values : List ℕ) (position : ℕ) (outcome : Outcome) (stored : ℕ) → IsTold words outs len values position outcome stored → is_rest (next_at words (Answering len values position outcome stored)) ≡ false
 answering_busy words outs len values position outcome stored t =
-    ap is_rest (next_store words len values position outcome stored _ (slice_get-get_or (answer (told position outcome)) stored (0, 0) t.more))
+    ap is_rest (next_store words len values position outcome stored _ (slice_get-get_or (answer (receipt_of position outcome)) stored (0, 0) t.more))
 
 -- away from rest a lane doesn't rest
 pub away : (words : ℕ) (outs : List Outcome) (lane : ℕ) (past : List Mark) (place : Place) → StandsIn words outs lane past place → is_away place ≡ true → rests words outs lane past ≡ false
@@ -203,7 +203,7 @@ to_answering words outs lane len values outcome past s enough =
         counted = i.counted;
         before = whole_stay words outs (outcome ∷ []) lane i.older i.before;
       },
-      record { enough = enough; told_so = here; more = 0_lt_answer (told (length outs) outcome) },
+      record { enough = enough; told_so = here; more = 0_lt_answer (receipt_of (length outs) outcome) },
     )
 
 -- a store
@@ -217,21 +217,21 @@ take_one_more [] n x h = cc
 take_one_more (y ∷ xs) zero x h = cc
 take_one_more (y ∷ xs) (suc n) x h = ap (λ rest. y ∷ rest) (take_one_more xs n x h)
 
-stored_in : (words : ℕ) (outs : List Outcome) (lane len : ℕ) (values : List ℕ) (position : ℕ) (outcome : Outcome) (stored : ℕ) (to : ℕ × ℕ) (past : List Mark) → StandsIn words outs lane past (Answering len values position outcome stored) → slice_get (answer (told position outcome)) stored ≡ Some to → IsIn words outs lane (Did (Stored lane to.0 to.1) ∷ past) (answered lane len values position (take (suc stored) (answer (told position outcome))))
+stored_in : (words : ℕ) (outs : List Outcome) (lane len : ℕ) (values : List ℕ) (position : ℕ) (outcome : Outcome) (stored : ℕ) (to : ℕ × ℕ) (past : List Mark) → StandsIn words outs lane past (Answering len values position outcome stored) → slice_get (answer (receipt_of position outcome)) stored ≡ Some to → IsIn words outs lane (Did (Stored lane to.0 to.1) ∷ past) (answered lane len values position (take (suc stored) (answer (receipt_of position outcome))))
 stored_in words outs lane len values position outcome stored to past s h =
-    let stores : List (ℕ × ℕ) = answer (told position outcome) in
+    let stores : List (ℕ × ℕ) = answer (receipt_of position outcome) in
     joins words outs lane past (Did (Stored lane to.0 to.1) ∷ past) (answered lane len values position (take stored stores)) _ (Stored lane to.0 to.1) s.0
     (pieces-stored lane to.0 to.1 past) refl
     (answered-snoc lane len values position (take stored stores) to ∙ ap (answered lane len values position) (take_one_more stores stored to h))
 
-pub to_answering_more : (words : ℕ) (outs : List Outcome) (lane len : ℕ) (values : List ℕ) (position : ℕ) (outcome : Outcome) (stored : ℕ) (to : ℕ × ℕ) (past : List Mark) → StandsIn words outs lane past (Answering len values position outcome stored) → slice_get (answer (told position outcome)) stored ≡ Some to → suc stored < length (answer (told position outcome)) → StandsIn words outs lane (Did (Stored lane to.0 to.1) ∷ past) (Answering len values position outcome (suc stored))
+pub to_answering_more : (words : ℕ) (outs : List Outcome) (lane len : ℕ) (values : List ℕ) (position : ℕ) (outcome : Outcome) (stored : ℕ) (to : ℕ × ℕ) (past : List Mark) → StandsIn words outs lane past (Answering len values position outcome stored) → slice_get (answer (receipt_of position outcome)) stored ≡ Some to → suc stored < length (answer (receipt_of position outcome)) → StandsIn words outs lane (Did (Stored lane to.0 to.1) ∷ past) (Answering len values position outcome (suc stored))
 to_answering_more words outs lane len values position outcome stored to past s h more =
     (stored_in words outs lane len values position outcome stored to past s h, record { enough = s.1.enough; told_so = s.1.told_so; more = more })
 
 -- the last store
-pub to_rest : (words : ℕ) (outs : List Outcome) (lane len : ℕ) (values : List ℕ) (position : ℕ) (outcome : Outcome) (stored : ℕ) (to : ℕ × ℕ) (past : List Mark) → StandsIn words outs lane past (Answering len values position outcome stored) → slice_get (answer (told position outcome)) stored ≡ Some to → suc stored ≡ length (answer (told position outcome)) → StandsIn words outs lane (Did (Stored lane to.0 to.1) ∷ past) AtRest
+pub to_rest : (words : ℕ) (outs : List Outcome) (lane len : ℕ) (values : List ℕ) (position : ℕ) (outcome : Outcome) (stored : ℕ) (to : ℕ × ℕ) (past : List Mark) → StandsIn words outs lane past (Answering len values position outcome stored) → slice_get (answer (receipt_of position outcome)) stored ≡ Some to → suc stored ≡ length (answer (receipt_of position outcome)) → StandsIn words outs lane (Did (Stored lane to.0 to.1) ∷ past) AtRest
 to_rest words outs lane len values position outcome stored to past s h last =
-    let stores : List (ℕ × ℕ) = answer (told position outcome) in
+    let stores : List (ℕ × ℕ) = answer (receipt_of position outcome) in
     let i = stored_in words outs lane len values position outcome stored to past s h in
     let w : IsWhole words outs lane (answered lane len values position (take (suc stored) stores)) = record {
       len = len;

@@ -6,8 +6,8 @@ use Rattle.std.proofs.lemmas.Bool.{cases_lt, eqb-true, eqb-false, eq-eqb, ne_eqb
 use Rattle.std.proofs.lemmas.List.{get_or-replicate, length-replicate}
 use Rattle.std.proofs.lemmas.Option.{slice_get_within}
 use Rattle.mm_base.specs.Numbers.{bytes_of_word, bytes_of_words}
-use Rattle.mm_base.specs.Prepared.{Readied}
-use Rattle.mm_base.specs.Receipt.{told}
+use Rattle.mm_base.specs.Prepared.{PreparedState}
+use Rattle.mm_base.specs.Receipt.{receipt_of}
 use Rattle.mm_base.specs.Replay.{replayed, left_by, outcomes}
 use Rattle.mm_base.specs.declared.cells.Saved.{Saved}
 use Rattle.mm_base.specs.declared.entry.Outcome.{Outcome}
@@ -130,7 +130,7 @@ follow_store words outs lane past place (Storing receipt stored) word value s f 
     let Q : Receipt → Type 0 = λ r. slice_get (answer r) stored ≡ Some (word, value) in
     let to = subst Q f.receipt_is (store_at (answer receipt) stored word value e) in
     let same = ap (λ r. length (answer r)) f.receipt_is in
-    let less : stored < length (answer (told f.position f.outcome)) = here.1.more in
+    let less : stored < length (answer (receipt_of f.position f.outcome)) = here.1.more in
     elim (stored + 1 == length (answer receipt))
     as (λ b. (stored + 1 == length (answer receipt)) ≡ b → Follower words outs lane (Did (Stored lane word value) ∷ past) (if b then Resting else Storing receipt (stored + 1))) [
       | true ↦ λ t. record {
@@ -142,7 +142,7 @@ follow_store words outs lane past place (Storing receipt stored) word value s f 
           let other : (stored + 1 ≡ length (answer receipt)) → ⊥ = eqb-false (stored + 1) (length (answer receipt)) t in
           record {
             place = Answering f.len f.values f.position f.outcome (suc stored);
-            stands = to_answering_more words outs lane f.len f.values f.position f.outcome stored (word, value) past here to (less_of stored (length (answer (told f.position f.outcome))) less (λ q. other (omega (arith, q, same))));
+            stands = to_answering_more words outs lane f.len f.values f.position f.outcome stored (word, value) past here to (less_of stored (length (answer (receipt_of f.position f.outcome))) less (λ q. other (omega (arith, q, same))));
             follows = record {
               len = f.len;
               values = f.values;
@@ -168,7 +168,7 @@ captured_request lane past words outs place (Loading prepared saved len loaded) 
 captured_request lane past words outs place (Turning bytes) s f e = absurd f
 captured_request lane past words outs place (Storing receipt stored) s f e = absurd (never_turn _ (next_is_store (answer receipt) stored) e)
 
-follow_turn : (words : ℕ) (outs : List Outcome) (lane : ℕ) (past : List Mark) (place : Place) (stage : Stage) (outcome : Outcome) → StandsIn words outs lane past place → Follows place (last_saved lane past) stage → next_action words stage ≡ Turn → Follower words (outs ++ outcome ∷ []) lane (Did (Turned lane (length outs)) ∷ past) (Storing (told (length outs) outcome) 0)
+follow_turn : (words : ℕ) (outs : List Outcome) (lane : ℕ) (past : List Mark) (place : Place) (stage : Stage) (outcome : Outcome) → StandsIn words outs lane past place → Follows place (last_saved lane past) stage → next_action words stage ≡ Turn → Follower words (outs ++ outcome ∷ []) lane (Did (Turned lane (length outs)) ∷ past) (Storing (receipt_of (length outs) outcome) 0)
 follow_turn words outs lane past place Resting outcome s f e = absurd cc
 follow_turn words outs lane past place (Rung prepared saved) outcome s f e = absurd cc
 follow_turn words outs lane past place (Loading prepared saved len loaded) outcome s f e =
@@ -213,10 +213,10 @@ own_poke words outs lane past seen word value s = record {
 }
 
 -- the turn, whose position is how many outcomes there were
-own_turn : (words : ℕ) (outs : List Outcome) (lane n : ℕ) (past : List Mark) (seen : LaneState) (outcome : Outcome) → length outs ≡ n → LaneStands words outs lane past seen → next_action words seen.processor.stage ≡ Turn → LaneStands words (outs ++ outcome ∷ []) lane (Did (Turned lane n) ∷ past) (lane_answered seen (told n outcome))
+own_turn : (words : ℕ) (outs : List Outcome) (lane n : ℕ) (past : List Mark) (seen : LaneState) (outcome : Outcome) → length outs ≡ n → LaneStands words outs lane past seen → next_action words seen.processor.stage ≡ Turn → LaneStands words (outs ++ outcome ∷ []) lane (Did (Turned lane n) ∷ past) (lane_answered seen (receipt_of n outcome))
 own_turn words outs lane n past seen outcome counted s e =
     let f = follow_turn words outs lane past s.place seen.processor.stage outcome s.stands s.stage e in
-    let P : ℕ → Type 0 = λ k. LaneStands words (outs ++ outcome ∷ []) lane (Did (Turned lane k) ∷ past) (lane_answered seen (told k outcome)) in
+    let P : ℕ → Type 0 = λ k. LaneStands words (outs ++ outcome ∷ []) lane (Did (Turned lane k) ∷ past) (lane_answered seen (receipt_of k outcome)) in
     subst P counted record { place = f.place; stands = f.stands; stage = f.follows; values = s.values }
 
 -- A lane stays where it stands while another one acts: its pieces, its rings and its words are as they were.
@@ -296,8 +296,8 @@ stands_turn {M} step m past w lane seen s there e =
     let outs_grown : outcomes_of step m later ≡ outs ++ o ∷ [] =
     ap (outcomes step m) grown ∙ outcomes-snoc step m rs r ∙ ap (λ (x : M). outs ++ (step x r).0 ∷ []) (sym now) in
     let entries_counted : length w.entries ≡ length rs = ap length s.entries ∙ length-replayed step m rs in
-    let acted : LaneState = lane_answered seen (told (length rs) o) in
-    let Each : ℕ → List Outcome → Type 0 = λ n os. (k : ℕ) (x : LaneState) → slice_get (slice_set w.lanes lane (lane_answered seen (told n o))) k ≡ Some x → LaneStands w.words os k later x in
+    let acted : LaneState = lane_answered seen (receipt_of (length rs) o) in
+    let Each : ℕ → List Outcome → Type 0 = λ n os. (k : ℕ) (x : LaneState) → slice_get (slice_set w.lanes lane (lane_answered seen (receipt_of n o))) k ≡ Some x → LaneStands w.words os k later x in
     let each : Each (length rs) (outs ++ o ∷ []) =
     after_set w.lanes lane acted (λ k x. LaneStands w.words (outs ++ o ∷ []) k later x) (slice_get_within w.lanes lane seen there)
     (own_turn w.words outs lane (length rs) past seen o (length-outcomes step m rs) own e)
@@ -391,7 +391,7 @@ resting_place place last (Loading prepared saved len loaded) f e = absurd cc
 resting_place place last (Turning bytes) f e = absurd cc
 resting_place place last (Storing receipt stored) f e = absurd cc
 
-own_ring : (words : ℕ) (outs : List Outcome) (lane : ℕ) (past : List Mark) (seen : LaneState) (prepared : Readied) (saved : Saved) → prepared.captured.items ≡ [] → is_resting seen.processor.stage ≡ true → LaneStands words outs lane past seen → LaneStands words outs lane (RungMark lane saved ∷ past) (lane_rung seen prepared saved)
+own_ring : (words : ℕ) (outs : List Outcome) (lane : ℕ) (past : List Mark) (seen : LaneState) (prepared : PreparedState) (saved : Saved) → prepared.captured.items ≡ [] → is_resting seen.processor.stage ≡ true → LaneStands words outs lane past seen → LaneStands words outs lane (RungMark lane saved ∷ past) (lane_rung seen prepared saved)
 own_ring words outs lane past seen prepared saved nothing resting s =
     let P : Place → Type 0 = λ p. StandsIn words outs lane past p in
     let here : StandsIn words outs lane past AtRest = subst P (resting_place s.place (last_saved lane past) seen.processor.stage s.stage resting) s.stands in
@@ -403,7 +403,7 @@ own_ring words outs lane past seen prepared saved nothing resting s =
     }
 
 -- a ring is accepted exactly where the processor rests
-stands_ring : {M : Type 0} (step : M → Request → Outcome × M) (m : M) (past : List Mark) (w : WorldState M) (lane : ℕ) (seen : LaneState) (prepared : Readied) (saved : Saved) → slice_get w.lanes lane ≡ Some seen → prepared.captured.items ≡ [] → StandsAt step m past w → StandsAt step m (if rests w.words (outcomes_of step m past) lane past then RungMark lane saved ∷ past else past) (rung_at w lane seen prepared saved)
+stands_ring : {M : Type 0} (step : M → Request → Outcome × M) (m : M) (past : List Mark) (w : WorldState M) (lane : ℕ) (seen : LaneState) (prepared : PreparedState) (saved : Saved) → slice_get w.lanes lane ≡ Some seen → prepared.captured.items ≡ [] → StandsAt step m past w → StandsAt step m (if rests w.words (outcomes_of step m past) lane past then RungMark lane saved ∷ past else past) (rung_at w lane seen prepared saved)
 stands_ring {M} step m past w lane seen prepared saved there nothing s =
     let outs : List Outcome = outcomes_of step m past in
     let own = s.each lane seen there in
@@ -505,7 +505,7 @@ goes_on_asked step w lane seen (Load word) there e =
 goes_on_asked step w lane seen Turn there e =
     let request : Request = asked lane seen.processor.stage in
     let o : Outcome = (step w.machine request).0 in
-    let acted : LaneState = lane_answered seen (told (length w.entries) o) in
+    let acted : LaneState = lane_answered seen (receipt_of (length w.entries) o) in
     omega (arith, length-append w.entries (record { request = request; outcome = o } ∷ []), asked_turn w.words seen.processor.stage e, sum_changed (λ (x : LaneState). turns_to_come x.processor.stage) w.lanes lane seen acted there)
 goes_on_asked step w lane seen (Store word value) there e =
     omega (arith, sum_changed (λ (x : LaneState). turns_to_come x.processor.stage) w.lanes lane seen (lane_stored seen word value) there, store_turns seen.processor.stage)
@@ -516,7 +516,7 @@ acts_times_asked step lane (suc n) w h =
     acts_times_asked step lane n (acts_once step lane w) (omega (arith, h, (acts_once_keeps step lane w h).lanes))
     ∙ goes_on_asked step w lane (lane_at w lane) (next_action w.words (lane_at w lane).processor.stage) (lane_there w lane h) refl
 
-rung_asked : {M : Type 0} (w : WorldState M) (lane : ℕ) (seen : LaneState) (prepared : Readied) (saved : Saved) → slice_get w.lanes lane ≡ Some seen → entries_asked (rung_at w lane seen prepared saved) ≤ entries_asked w + 1
+rung_asked : {M : Type 0} (w : WorldState M) (lane : ℕ) (seen : LaneState) (prepared : PreparedState) (saved : Saved) → slice_get w.lanes lane ≡ Some seen → entries_asked (rung_at w lane seen prepared saved) ≤ entries_asked w + 1
 rung_asked {M} w lane seen prepared saved there =
     let acted : LaneState = lane_rung seen prepared saved in
     let now : WorldState M = record w { lanes = slice_set w.lanes lane acted } in

@@ -1,7 +1,7 @@
 -- What contracts see of a world behind changes of its parts.
 use Rattle.std.proofs.Common.{◌≡◌, ℕ, ◌+◌, List, [], ◌∷◌, ◌++◌, length, slice_set, zero, suc, ◌-◌, ◌<◌, Some, refl, sym, ap, ◌∙◌, arith}
 use Rattle.std.specs.List.{slice_get}
-use Rattle.mm_base.specs.Receipt.{told}
+use Rattle.mm_base.specs.Receipt.{receipt_of}
 use Rattle.mm_base.specs.declared.entry.Entry.{Entry}
 use Rattle.mm_base.specs.declared.entry.Outcome.{Outcome}
 use Rattle.mm_base.specs.declared.entry.Request.{Request}
@@ -26,20 +26,20 @@ seen_by words lanes machine entries trace = record {
 }
 
 -- the world behind a turn, by its parts
-pub seen_turn : {M : Type 0} (step : M → Request → Outcome × M) (words : ℕ) (lanes : List LaneState) (machine now_machine : M) (entries now_entries : List Entry) (trace now_trace : List Trace) (lane : ℕ) (at acted : LaneState) (request : Request) (outcome : Outcome) (receipt : Receipt) → slice_get lanes lane ≡ Some at → request ≡ asked lane at.processor.stage → outcome ≡ (step machine request).0 → now_machine ≡ (step machine request).1 → now_entries ≡ entries ++ record { request = request; outcome = outcome } ∷ [] → receipt ≡ told (length entries) outcome → acted ≡ lane_answered at receipt → now_trace ≡ trace ++ Turned lane (length entries) ∷ [] → seen_by words (slice_set lanes lane acted) now_machine now_entries now_trace ≡ turns step (seen_by words lanes machine entries trace) lane (lane_at (seen_by words lanes machine entries trace) lane)
+pub seen_turn : {M : Type 0} (step : M → Request → Outcome × M) (words : ℕ) (lanes : List LaneState) (machine now_machine : M) (entries now_entries : List Entry) (trace now_trace : List Trace) (lane : ℕ) (at acted : LaneState) (request : Request) (outcome : Outcome) (receipt : Receipt) → slice_get lanes lane ≡ Some at → request ≡ asked lane at.processor.stage → outcome ≡ (step machine request).0 → now_machine ≡ (step machine request).1 → now_entries ≡ entries ++ record { request = request; outcome = outcome } ∷ [] → receipt ≡ receipt_of (length entries) outcome → acted ≡ lane_answered at receipt → now_trace ≡ trace ++ Turned lane (length entries) ∷ [] → seen_by words (slice_set lanes lane acted) now_machine now_entries now_trace ≡ turns step (seen_by words lanes machine entries trace) lane (lane_at (seen_by words lanes machine entries trace) lane)
 seen_turn {M} step words lanes machine now_machine entries now_entries trace now_trace lane at acted request outcome receipt there re oe me ee ce ae te =
     let r : Request = asked lane at.processor.stage in
     let o : Outcome = (step machine r).0 in
     let w : WorldState M = seen_by words lanes machine entries trace in
     let outcome_is : outcome ≡ o = oe ∙ ap (λ x. (step machine x).0) re in
-    let acted_is : acted ≡ lane_answered at (told (length entries) o) = ae ∙ ap (lane_answered at) (ce ∙ ap (told (length entries)) outcome_is) in
+    let acted_is : acted ≡ lane_answered at (receipt_of (length entries) o) = ae ∙ ap (lane_answered at) (ce ∙ ap (receipt_of (length entries)) outcome_is) in
     let machine_is : now_machine ≡ (step machine r).1 = me ∙ ap (λ x. (step machine x).1) re in
     let entries_are : now_entries ≡ entries ++ record { request = r; outcome = o } ∷ [] =
     ee ∙ ap (λ x. entries ++ record { request = x; outcome = outcome } ∷ []) re ∙ ap (λ x. entries ++ record { request = r; outcome = x } ∷ []) outcome_is in
     ap (λ x. seen_by words (slice_set lanes lane x) now_machine now_entries now_trace) acted_is
-    ∙ ap (λ x. seen_by words (slice_set lanes lane (lane_answered at (told (length entries) o))) x now_entries now_trace) machine_is
-    ∙ ap (λ x. seen_by words (slice_set lanes lane (lane_answered at (told (length entries) o))) (step machine r).1 x now_trace) entries_are
-    ∙ ap (λ x. seen_by words (slice_set lanes lane (lane_answered at (told (length entries) o))) (step machine r).1 (entries ++ record { request = r; outcome = o } ∷ []) x) te
+    ∙ ap (λ x. seen_by words (slice_set lanes lane (lane_answered at (receipt_of (length entries) o))) x now_entries now_trace) machine_is
+    ∙ ap (λ x. seen_by words (slice_set lanes lane (lane_answered at (receipt_of (length entries) o))) (step machine r).1 x now_trace) entries_are
+    ∙ ap (λ x. seen_by words (slice_set lanes lane (lane_answered at (receipt_of (length entries) o))) (step machine r).1 (entries ++ record { request = r; outcome = o } ∷ []) x) te
     ∙ ap (turns step w lane) (sym (lane_at-is w lane at there))
 
 -- the world behind the next action, once that is known

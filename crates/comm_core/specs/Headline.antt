@@ -1,7 +1,7 @@
 -- The headline of a world, as far as it goes: what its trace and its entries say by themselves. Neither events nor a
 -- processor are needed to read it.
 use Rattle.std.specs.Prelude.{◌≡◌, ◌<◌, ℕ, ◌+◌, List, [], ◌∷◌, length, map, Some, slice_get, slice_index, ⊤}
-use Rattle.mm_base.specs.Receipt.{told}
+use Rattle.mm_base.specs.Receipt.{receipt_of}
 use Rattle.mm_base.specs.Replay.{replayed, left_by}
 use Rattle.mm_base.specs.declared.entry.Entry.{Entry}
 use Rattle.mm_base.specs.declared.entry.Outcome.{Outcome}
@@ -53,7 +53,7 @@ pub record WasCapturedOnce (words : ℕ) (trace : List Trace) (position : ℕ) (
   pub turn : turn_in piece ≡ Some position
   pub request : entry.request ≡ request_in entry.request.lane entry.request.saved piece
   pub once : LoadsOnce words piece
-  pub in_order : Begins (map action_of piece) (whole words entry.request.length (Some (told position entry.outcome)))
+  pub in_order : Begins (map action_of piece) (whole words entry.request.length (Some (receipt_of position entry.outcome)))
 
 -- The headline of a world that was driven from this machine value, whoever stored what to its lanes meanwhile:
 -- * each load of its trace gave what stood in the word;

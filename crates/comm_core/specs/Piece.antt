@@ -7,7 +7,7 @@
 -- 8*j to 8*j + 7 of the communicate buffer, the lowest byte first. Its capacity is 8 bytes a data word.
 use Rattle.std.specs.Prelude.{ℕ, zero, suc, ◌+◌, ◌*◌, if◌then◌else◌, ◌&&◌, nat_le, List, [], ◌∷◌, ◌++◌, length, take, drop, map, Option, Some, None, unwrap_or, slice_get, option_map}
 use Rattle.mm_base.specs.Numbers.{words_for, words_of_bytes, bytes_of_words}
-use Rattle.mm_base.specs.Receipt.{told}
+use Rattle.mm_base.specs.Receipt.{receipt_of}
 use Rattle.mm_base.specs.declared.cells.Saved.{Saved}
 use Rattle.mm_base.specs.declared.entry.Outcome.{Outcome}
 use Rattle.mm_base.specs.declared.entry.Request.{Request}
@@ -76,7 +76,7 @@ turn_in (Turned lane position ∷ piece) = Some position
 -- the receipt of a piece's turn, where these are the outcomes so far
 abbrev pub receipt_at : List Outcome → Option ℕ → Option Receipt
 receipt_at outcomes None = None
-receipt_at outcomes (Some position) = option_map (told position) (slice_get outcomes position)
+receipt_at outcomes (Some position) = option_map (receipt_of position) (slice_get outcomes position)
 
 -- What a piece has next: what a whole piece has behind as many actions as this one has records.
 abbrev pub next_in : ℕ → List Outcome → List Trace → Action

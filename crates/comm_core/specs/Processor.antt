@@ -1,7 +1,7 @@
 -- The processor of a lane, as a machine that stands at a stage and is fed what it asked for.
 use Rattle.std.specs.Prelude.{◌≡◌, ◌≤◌, ◌<◌, ℕ, ◌+◌, ◌-◌, ◌*◌, ◌^◌, Bool, true, false, if◌then◌else◌, ◌==◌, nat_lt, [], ◌++◌, length, take, map, unwrap_or, slice_get}
 use Rattle.mm_base.specs.Numbers.{bytes_of_word}
-use Rattle.mm_base.specs.Prepared.{Readied}
+use Rattle.mm_base.specs.Prepared.{PreparedState}
 use Rattle.mm_base.specs.declared.receipt.Receipt.{Receipt}
 use Rattle.comm_core.specs.Piece.{needed, answer, store}
 use Rattle.comm_core.specs.Capture.{longest}
@@ -35,7 +35,7 @@ next_action words (Turning bytes) = Turn
 next_action words (Storing receipt stored) = unwrap_or (slice_get (map store (answer receipt)) stored) Rest
 
 -- the prepared memory with the eight bytes of this word captured too
-abbrev pub with_word : Readied → ℕ → Readied
+abbrev pub with_word : PreparedState → ℕ → PreparedState
 with_word prepared value = record prepared { captured = record { items = prepared.captured.items ++ bytes_of_word value; room = prepared.captured.room } }
 
 -- the stage behind the load of the length
@@ -70,7 +70,7 @@ behind_fed stage (fed.Answered receipt) = Storing receipt 0
 behind_fed stage fed.Stored = behind_store stage
 
 -- the prepared memory with its request made, of the first so many bytes that were captured
-abbrev pub sealed : ℕ → Stage → Readied → Readied
+abbrev pub sealed : ℕ → Stage → PreparedState → PreparedState
 sealed lane (Loading prepared saved len loaded) other = record prepared {
   entry = record {
     request = record { lane = lane; length = len; bytes = take len prepared.captured.items; saved = saved };
@@ -93,7 +93,7 @@ to_come words (Storing receipt stored) = length (answer receipt) - stored
 
 -- What a stage may hold: as many captured bytes as its loads gave, with place for the rest; and an answer that isn't
 -- over, whose reply fits the lane.
-pub record IsCapturing (words len loaded : ℕ) (prepared : Readied) : Type 0 where
+pub record IsCapturing (words len loaded : ℕ) (prepared : PreparedState) : Type 0 where
   pub bytes : length prepared.captured.items ≡ 8 * loaded
   pub room : 8 * words ≤ prepared.captured.room
   pub within : loaded ≤ needed words len
@@ -102,7 +102,7 @@ pub record IsAnswering (words stored : ℕ) (receipt : Receipt) : Type 0 where
   pub more : stored < length (answer receipt)
   pub fits : length receipt.bytes ≤ 8 * words
 
-pub record IsBlank (words : ℕ) (prepared : Readied) : Type 0 where
+pub record IsBlank (words : ℕ) (prepared : PreparedState) : Type 0 where
   pub bytes : prepared.captured.items ≡ []
   pub room : 8 * words ≤ prepared.captured.room
 
@@ -116,7 +116,7 @@ IsSound words (Storing receipt stored) = IsAnswering words stored receipt
 -- Something may be fed that answers the next action: a ring at rest, with memory in which nothing was captured and that
 -- has place for each data word; a value where it loads; a receipt behind its request, whose reply is no longer than
 -- that; and word of a store.
-abbrev pub MayRing : ℕ → Stage → Readied → Type 0
+abbrev pub MayRing : ℕ → Stage → PreparedState → Type 0
 MayRing words Resting prepared = IsBlank words prepared
 MayRing words (Rung p s) prepared = ⊥
 MayRing words (Loading p s len loaded) prepared = ⊥

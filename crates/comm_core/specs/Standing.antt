@@ -1,6 +1,6 @@
 -- Where a lane stands in its pieces: the four kinds of places that a lane can come to.
 use Rattle.std.specs.Prelude.{◌≡◌, ◌≤◌, ◌<◌, ℕ, ◌+◌, if◌then◌else◌, nat_lt, List, [], ◌∷◌, ◌++◌, length, map, take, Some, unwrap_or, slice_get}
-use Rattle.mm_base.specs.Receipt.{told}
+use Rattle.mm_base.specs.Receipt.{receipt_of}
 use Rattle.mm_base.specs.declared.entry.Outcome.{Outcome}
 use Rattle.comm_core.specs.Piece.{needed, answer, store}
 use Rattle.comm_core.specs.Capture.{Mark, rings, pieces}
@@ -29,7 +29,7 @@ pub record IsWhole (words : ℕ) (outcomes : List Outcome) (lane : ℕ) (piece :
   pub values : List ℕ
   pub position : ℕ
   pub outcome : Outcome
-  pub records : piece ≡ answered lane len values position (answer (told position outcome))
+  pub records : piece ≡ answered lane len values position (answer (receipt_of position outcome))
   pub enough : length values ≡ needed words len
   pub told_so : slice_get outcomes position ≡ Some outcome
 
@@ -61,7 +61,7 @@ pub record IsBetween (words : ℕ) (outcomes : List Outcome) (lane : ℕ) (past 
 pub record IsTold (words : ℕ) (outcomes : List Outcome) (len : ℕ) (values : List ℕ) (position : ℕ) (outcome : Outcome) (stored : ℕ) : Type 0 where
   pub enough : length values ≡ needed words len
   pub told_so : slice_get outcomes position ≡ Some outcome
-  pub more : stored < length (answer (told position outcome))
+  pub more : stored < length (answer (receipt_of position outcome))
 
 -- the lane stands at this place
 abbrev pub StandsIn : ℕ → List Outcome → ℕ → List Mark → Place → Type 0
@@ -70,7 +70,7 @@ StandsIn words outcomes lane past Called = IsBetween words outcomes lane past 1
 StandsIn words outcomes lane past (Capturing len values) =
     IsIn words outcomes lane past (captured lane len values) × (length values ≤ needed words len)
 StandsIn words outcomes lane past (Answering len values position outcome stored) =
-    IsIn words outcomes lane past (answered lane len values position (take stored (answer (told position outcome))))
+    IsIn words outcomes lane past (answered lane len values position (take stored (answer (receipt_of position outcome))))
     × IsTold words outcomes len values position outcome stored
 
 -- the next action at a place
@@ -79,4 +79,4 @@ next_at words AtRest = Rest
 next_at words Called = Load 0
 next_at words (Capturing len values) = if nat_lt (length values) (needed words len) then Load (2 + length values) else Turn
 next_at words (Answering len values position outcome stored) =
-    unwrap_or (slice_get (map store (answer (told position outcome))) stored) Rest
+    unwrap_or (slice_get (map store (answer (receipt_of position outcome))) stored) Rest

@@ -3,8 +3,8 @@
 -- (`World.antt`, `Capture.antt`), and the proofs lead from here to there.
 use Rattle.std.specs.Prelude.{ℕ, zero, suc, ◌+◌, ◌*◌, if◌then◌else◌, List, [], ◌∷◌, ◌++◌, length, take, replicate, slice_index, slice_index_or, slice_set, sum_by}
 use Rattle.mm_base.specs.Entry.{blank_entry}
-use Rattle.mm_base.specs.Prepared.{Readied}
-use Rattle.mm_base.specs.Receipt.{told}
+use Rattle.mm_base.specs.Prepared.{PreparedState}
+use Rattle.mm_base.specs.Receipt.{receipt_of}
 use Rattle.mm_base.specs.declared.cells.Saved.{Saved}
 use Rattle.mm_base.specs.declared.entry.Outcome.{Outcome}
 use Rattle.mm_base.specs.declared.entry.Request.{Request}
@@ -48,7 +48,7 @@ with_stage seen stage = record {
 }
 
 -- What a lane is behind a step.
-abbrev pub lane_rung : LaneState → Readied → Saved → LaneState
+abbrev pub lane_rung : LaneState → PreparedState → Saved → LaneState
 lane_rung seen prepared saved = with_stage seen (Rung prepared saved)
 
 abbrev pub lane_loaded : LaneState → ℕ → LaneState
@@ -101,7 +101,7 @@ turns step w lane seen =
     record w {
       machine = turn.1;
       entries = w.entries ++ record { request = request; outcome = turn.0 } ∷ [];
-      lanes = slice_set w.lanes lane (lane_answered seen (told (length w.entries) turn.0));
+      lanes = slice_set w.lanes lane (lane_answered seen (receipt_of (length w.entries) turn.0));
       trace = w.trace ++ Turned lane (length w.entries) ∷ [];
     }
 
@@ -119,7 +119,7 @@ acts_times step lane zero w = w
 acts_times step lane (suc n) w = acts_times step lane n (acts_once step lane w)
 
 -- the memory of an entry, for a lane of so many data words and a machine of so many calls
-abbrev pub prepared_for : ℕ → ℕ → Readied
+abbrev pub prepared_for : ℕ → ℕ → PreparedState
 prepared_for words calls = record {
   entry = blank_entry;
   captured = record { items = []; room = 8 * words };
@@ -129,7 +129,7 @@ prepared_for words calls = record {
 }
 
 -- What the world is behind an event at this lane, which is seen so before it.
-abbrev pub rung_at : {M : Type 0} → WorldState M → ℕ → LaneState → Readied → Saved → WorldState M
+abbrev pub rung_at : {M : Type 0} → WorldState M → ℕ → LaneState → PreparedState → Saved → WorldState M
 rung_at w lane seen prepared saved =
     if is_resting seen.processor.stage then record w { lanes = slice_set w.lanes lane (lane_rung seen prepared saved) } else w
 

@@ -3,10 +3,10 @@
 use Rattle.std.specs.Prelude.{◌≡◌, ◌≤◌, ◌<◌, ℕ, ◌+◌, ◌*◌, ◌^◌, List, [], length, slice_index, slice_get, sum_by, Some, Bool, true, false}
 use Rattle.std.specs.Option.{option_map_or}
 use Rattle.mm_base.specs.Numbers.{bytes_of_words}
-use Rattle.mm_base.specs.Prepared.{Readied}
-use Rattle.mm_base.specs.Receipt.{told}
+use Rattle.mm_base.specs.Prepared.{PreparedState}
+use Rattle.mm_base.specs.Receipt.{receipt_of}
 use Rattle.mm_base.specs.Replay.{replayed, left_by}
-use Rattle.mm_base.specs.Room.{Roomy}
+use Rattle.mm_base.specs.Room.{RoomState}
 use Rattle.mm_base.specs.declared.cells.Saved.{Saved}
 use Rattle.mm_base.specs.declared.entry.Entry.{Entry}
 use Rattle.mm_base.specs.declared.entry.Outcome.{Outcome}
@@ -37,12 +37,12 @@ pub record WorldState (M : Type 0) : Type 0 where
 
 -- The stage of a processor is that of its lane's place: at rest; rung, with the ring's saved registers and nothing
 -- captured; with the length and the bytes of the data words as they were loaded; or with the receipt of the turn.
-pub record IsRung (place : Place) (last : Saved) (prepared : Readied) (saved : Saved) : Type 0 where
+pub record IsRung (place : Place) (last : Saved) (prepared : PreparedState) (saved : Saved) : Type 0 where
   pub at : place ≡ Called
   pub registers : saved ≡ last
   pub nothing : prepared.captured.items ≡ []
 
-pub record IsLoading (place : Place) (last : Saved) (prepared : Readied) (saved : Saved) (len loaded : ℕ) : Type 0 where
+pub record IsLoading (place : Place) (last : Saved) (prepared : PreparedState) (saved : Saved) (len loaded : ℕ) : Type 0 where
   pub values : List ℕ
   pub at : place ≡ Capturing len values
   pub registers : saved ≡ last
@@ -55,7 +55,7 @@ pub record IsStoring (place : Place) (receipt : Receipt) (stored : ℕ) : Type 0
   pub position : ℕ
   pub outcome : Outcome
   pub at : place ≡ Answering len values position outcome stored
-  pub receipt_is : receipt ≡ told position outcome
+  pub receipt_is : receipt ≡ receipt_of position outcome
 
 abbrev pub Follows : Place → Saved → Stage → Type 0
 Follows place last Resting = place ≡ AtRest
@@ -105,7 +105,7 @@ rings_in (Steps lane count) = 0
 rings_in (Run lane) = 0
 
 -- the memory of a ring under way has place for whatever the machine answers
-pub record IsRoomy (words calls : ℕ) (prepared : Readied) : Type 0 where
+pub record IsRoomy (words calls : ℕ) (prepared : PreparedState) : Type 0 where
   pub calls_fit : calls ≤ prepared.calls
   pub reply : 8 * words ≤ prepared.reply
   pub second : 8 * words ≤ prepared.second
@@ -125,7 +125,7 @@ pub record IsLaneReady (words calls lane : ℕ) (seen : LaneState) : Type 0 wher
   pub memory : HasRoom words calls seen.processor.stage
 
 -- A world is ready: nothing behind an accepted ring can want memory.
-pub record IsReady (words : ℕ) (lanes : List LaneState) (calls entries : ℕ) (trace : Roomy Trace) : Type 0 where
+pub record IsReady (words : ℕ) (lanes : List LaneState) (calls entries : ℕ) (trace : RoomState Trace) : Type 0 where
   pub low : 3 ≤ words
   pub high : words ≤ 512
   pub few : length lanes ≤ 16

@@ -15,7 +15,7 @@ abbrev pub AllPass : {K : Type 0} → List (Check K) → Type 0
 AllPass [] = Unit {0}
 AllPass (check ∷ others) = (check.passes ≡ true) × AllPass others
 
--- a check that fails behind others that pass is the first that fails
+-- a check that fails after others that pass is the first that fails
 pub first_at : {K : Type 0} (all : List (Check K)) (k : ℕ) (none : Check K) → k < length all → AllPass (take k all) → (get_or all k none).passes ≡ false → first_failing all ≡ Some (get_or all k none)
 first_at [] k none h pass e = absurd (omega arith)
 first_at (check ∷ others) zero none h pass e = stops_at check others e

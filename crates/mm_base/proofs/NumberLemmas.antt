@@ -52,7 +52,7 @@ bytes_of_word-number_of (a ∷ b ∷ c ∷ d ∷ e ∷ f ∷ g ∷ h ∷ []) lon
     le_bytes_8 bytes _ long (small_at bytes small) (spelled_8 a b c d e f g h)
 bytes_of_word-number_of (a ∷ b ∷ c ∷ d ∷ e ∷ f ∷ g ∷ h ∷ i ∷ rest) long small = absurd (omega arith)
 
--- zeros behind bytes change nothing of the number
+-- zeros after bytes change nothing of the number
 number_of-zeros : (n : ℕ) → number_of (replicate n 0) ≡ 0
 number_of-zeros zero = refl
 number_of-zeros (suc n) = omega (arith, number_of-zeros n)
@@ -77,7 +77,7 @@ pub length-bytes_of_words : (words : List ℕ) → length (bytes_of_words words)
 length-bytes_of_words [] = refl
 length-bytes_of_words (word ∷ words) = omega (arith, length-bytes_of_words words)
 
--- the bytes of words that stand behind others
+-- the bytes of words that stand after others
 pub bytes_of_words-append : (words more : List ℕ) → bytes_of_words (words ++ more) ≡ bytes_of_words words ++ bytes_of_words more
 bytes_of_words-append [] more = refl
 bytes_of_words-append (word ∷ words) more = ap (λ rest. bytes_of_word word ++ rest) (bytes_of_words-append words more)

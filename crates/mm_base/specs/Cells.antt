@@ -17,17 +17,17 @@ is_device_byte at = nat_le 0xfe000000 at && nat_lt at 0xfe010000
 abbrev pub is_msr : ℕ → Bool
 is_msr at = nat_lt at 0x2000 || (nat_le 0xc0000000 at && nat_lt at 0xc0002000)
 
--- whether the platform has this cell, and it may hold this value; saved registers are no cells
-abbrev pub is_cell : Kind → ℕ → ℕ → Bool
-is_cell Memory at value = is_device_byte at && nat_lt value 0x100
-is_cell Io at value = is_port at && nat_lt value 0x100
-is_cell Msr at value = is_msr at
-is_cell Saved at value = false
+-- whether the platform has a cell of this kind there, and it may hold this value; saved registers are no cells
+abbrev pub may_hold : Kind → ℕ → ℕ → Bool
+may_hold Memory at value = is_device_byte at && nat_lt value 0x100
+may_hold Io at value = is_port at && nat_lt value 0x100
+may_hold Msr at value = is_msr at
+may_hold Saved at value = false
 
 -- an opening cell: one cell of the platform, with a value that it may hold
 pub record IsOpeningCell (cell : CellWrite) : Type 0 where
   pub one : cell.n ≡ 1
-  pub there : is_cell cell.kind cell.at cell.value ≡ true
+  pub there : may_hold cell.kind cell.at cell.value ≡ true
 
 -- what cells may hold at the start: each item is one cell
 abbrev pub IsOpening : List CellWrite → Type 0

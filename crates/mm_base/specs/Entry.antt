@@ -6,11 +6,11 @@ use Rattle.mm_base.specs.declared.entry.Shape.TheVariants.{BadLength, BadHeader,
 use Rattle.mm_base.specs.declared.entry.Entry.{Entry}
 
 -- whether handlers of the request's GUID ran
-abbrev pub is_dispatched : Shape → Bool
-is_dispatched BadLength = false
-is_dispatched BadHeader = false
-is_dispatched (NoHandler g) = false
-is_dispatched (Dispatched g) = true
+abbrev pub was_dispatched : Shape → Bool
+was_dispatched BadLength = false
+was_dispatched BadHeader = false
+was_dispatched (NoHandler g) = false
+was_dispatched (Dispatched g) = true
 
 -- all saved registers 0
 abbrev pub no_registers : Saved

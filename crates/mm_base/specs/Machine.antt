@@ -9,7 +9,7 @@ pub record HasFewRecords (invocation : Invocation) : Type 0 where
   pub denials : length invocation.denials ≤ 8
   pub writes : length invocation.writes ≤ 16
 
--- An outcome has at most so many invocations, with few records each, and a reply no longer than the request.
+-- An outcome has at most this many invocations, with few records each, and a reply no longer than the request.
 pub record IsWithin (most : ℕ) (request : Request) (outcome : Outcome) : Type 0 where
   pub calls : length outcome.chain + length outcome.root ≤ most
   pub chain : All HasFewRecords outcome.chain

@@ -4,6 +4,6 @@ use Rattle.mm_base.specs.declared.access.Denial.{Denial}
 use Rattle.mm_base.specs.declared.cells.CellWrite.{CellWrite}
 
 -- the denials and the cell writes so far, in the order in which they came
-pub record Recorded : Type 0 where
+pub record RecordsState : Type 0 where
   pub denials : List Denial
   pub writes : List CellWrite

@@ -1,11 +1,11 @@
 -- The replay of requests on a machine, which is given by one function from its value and a request to the outcome
--- and the value behind it.
+-- and the value after it.
 use Rattle.std.specs.Prelude.{List, [], ◌∷◌, map}
 use Rattle.mm_base.specs.declared.entry.Request.{Request}
 use Rattle.mm_base.specs.declared.entry.Outcome.{Outcome}
 use Rattle.mm_base.specs.declared.entry.Entry.{Entry}
 
--- the requests in order, each with the outcome that it has behind those in front of it
+-- the requests in order, each with the outcome that it has after those before it
 abbrev pub replayed : {M : Type 0} → (M → Request → Outcome × M) → M → List Request → List Entry
 replayed step machine [] = []
 replayed step machine (request ∷ requests) =

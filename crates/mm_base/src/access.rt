@@ -1,4 +1,6 @@
 //! Accesses of a demoted image: what they are of, and why one passes or is denied.
+ghost use Rattle.std.specs.Prelude.{◌≡◌};
+ghost use Rattle.mm_base.specs.Rights.{bit_of, have_right};
 
 /// What an access is of.
 #[derive(Clone, Copy, Debug, PartialEq, Eq)]
@@ -21,6 +23,26 @@ pub enum Right {
     Execute,
 }
 
+impl Right {
+    /// The bit of a set of rights that stands for it: 1 for read, 2 for write, 4 for execute.
+    pub fn bit(self) -> u8
+        ensures { result ≡ bit_of self }
+    {
+        match self {
+            Right::Read => 1,
+            Right::Write => 2,
+            Right::Execute => 4,
+        }
+    }
+
+    /// Whether a set of rights has it.
+    pub fn is_among(self, rights: u8) -> bool
+        ensures { result ≡ have_right rights self }
+    {
+        rights & self.bit() != 0
+    }
+}
+
 /// What decided an access.
 #[derive(Clone, Copy, Debug, PartialEq, Eq)]
 pub enum Why {
@@ -38,6 +60,13 @@ pub enum Why {
     NoRule,
     /// The invocation had made all the cell writes that it may make.
     Quota,
+}
+
+/// What becomes of an access, and what decided that.
+#[derive(Clone, Copy, Debug, PartialEq, Eq)]
+pub enum Verdict {
+    Pass(Why),
+    Deny(Why),
 }
 
 /// An access that was denied: `n` units of `kind` from `at`.

@@ -1,21 +1,9 @@
 //! Cells of the platform: ports, model-specific registers and the bytes of the device window.
 ghost use Rattle.std.specs.Prelude.{◌≡◌};
-ghost use Rattle.mm_base.specs.Cells.{is_cell as is_a_cell};
+ghost use Rattle.mm_base.specs.Cells.{may_hold};
 
+use crate::platform::{DEVICE_WINDOW, MSRS, PORTS, SAVED_REGISTERS, UPPER_MSRS};
 use crate::{Kind, List};
-
-/// How many I/O ports there are.
-pub const PORTS: u64 = 0x1_0000;
-
-/// Where the window of device bytes begins, and how many bytes it has.
-pub const DEVICE_WINDOW: u64 = 0xfe00_0000;
-
-pub const DEVICE_BYTES: u64 = 0x1_0000;
-
-/// How many model-specific registers stand at each end of their numbers, and where the upper ones begin.
-pub const MSRS: u64 = 0x2000;
-
-pub const UPPER_MSRS: u64 = 0xc000_0000;
 
 /// The most that a byte cell holds.
 const MOST_OF_BYTE: u64 = 0xff;
@@ -37,11 +25,13 @@ pub struct Opening {
 
 /// Whether the platform has this cell, and it may hold this value. A device byte is of the kind `Memory`, at its address.
 pub fn is_cell(kind: Kind, at: u64, value: u64) -> bool
-    ensures { result ≡ is_a_cell kind at value }
+    ensures { result ≡ may_hold kind at value }
 {
     match kind {
         Kind::Memory => {
-            DEVICE_WINDOW <= at && at < DEVICE_WINDOW + DEVICE_BYTES && value <= MOST_OF_BYTE
+            DEVICE_WINDOW.base <= at
+                && at < DEVICE_WINDOW.base + DEVICE_WINDOW.length
+                && value <= MOST_OF_BYTE
         }
         Kind::Io => at < PORTS && value <= MOST_OF_BYTE,
         Kind::Msr => at < MSRS || (UPPER_MSRS <= at && at < UPPER_MSRS + MSRS),
@@ -52,9 +42,9 @@ pub fn is_cell(kind: Kind, at: u64, value: u64) -> bool
 /// The registers of the processor that entered, as they were saved: RAX, RBX, RCX, RDX, RSI, RDI, RBP, RSP,
 /// R8 to R15, RIP, RFLAGS, and the trapped access (bits 0 to 15 the port, bit 16 read, bit 17 write).
 #[derive(Clone, Copy, Debug, PartialEq, Eq)]
-pub struct Saved(pub [u64; 19]);
+pub struct Saved(pub [u64; SAVED_REGISTERS]);
 
 impl Saved {
     /// All registers 0.
-    pub const ZERO: Saved = Saved([0; 19]);
+    pub const ZERO: Saved = Saved([0; SAVED_REGISTERS]);
 }

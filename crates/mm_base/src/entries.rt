@@ -9,7 +9,7 @@ use std::alloc::Global;
 use std::marker::Model;
 use std::mem;
 
-/// Entries, the newest first, each in a box of the one behind it.
+/// Entries, the newest first, each in a box of the newer one.
 #[derive(Debug)]
 pub enum Chain {
     End,
@@ -82,7 +82,7 @@ impl Entries {
     }
 
     /// The entry at place `k`, counted from the oldest; None past the last. It goes back from the newest, so that
-    /// it costs as many steps as there are entries behind that place.
+    /// it costs as many steps as there are entries after that place.
     pub fn get(&self, k: u64) -> Option<&Entry>
         ensures { option_copied result ≡ slice_get self.now k }
     {

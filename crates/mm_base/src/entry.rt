@@ -1,6 +1,6 @@
 //! One entry of the core: the request that was captured, and what came of it.
 ghost use Rattle.std.specs.Prelude.{◌≡◌, []};
-ghost use Rattle.mm_base.specs.Entry.{blank_entry, is_dispatched as dispatched_shape};
+ghost use Rattle.mm_base.specs.Entry.{blank_entry, was_dispatched};
 
 use crate::{Guid, Invocation, List, Saved};
 use std::alloc::Global;
@@ -13,7 +13,7 @@ pub const HEADER_BYTES: u64 = 24;
 pub enum Shape {
     /// Its length is below a header's, or over the lane's capacity.
     BadLength,
-    /// Its header tells more bytes than the request has.
+    /// Its MessageLength exceeds the message.
     BadHeader,
     /// No handler is registered for its GUID.
     NoHandler(Guid),
@@ -51,7 +51,7 @@ pub struct Entry {
 impl Shape {
     /// Whether handlers of the GUID ran.
     pub fn is_dispatched(&self) -> bool
-        ensures { result ≡ dispatched_shape self.now }
+        ensures { result ≡ was_dispatched self.now }
     {
         matches!(self, Shape::Dispatched(_))
     }

@@ -13,7 +13,7 @@ pub enum DepexFault {
     Underflow(u32),
     /// At END there are two operands or more.
     Leftover(u32),
-    /// A BEFORE or AFTER isn't first, or something else than END stands behind it.
+    /// A BEFORE or AFTER isn't first, or something else than END stands after it.
     BeforeNotFirst(u32),
     /// The operand would be the 257th.
     TooDeep(u32),

@@ -7,9 +7,6 @@ use uuid::Uuid;
 /// How many bytes a GUID has.
 pub const GUID_BYTES: usize = 16;
 
-/// How many bytes a GUID's text has.
-pub const GUID_TEXT_BYTES: usize = 36;
-
 /// A GUID by its stored bytes: the first three fields low byte first, the rest as written.
 #[derive(Clone, Copy, Debug, PartialEq, Eq, Hash)]
 pub struct Guid(pub [u8; 16]);

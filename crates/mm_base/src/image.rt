@@ -8,7 +8,7 @@ pub enum PeKind {
     Short,
     /// The DOS header's signature isn't `MZ`.
     Mz,
-    /// The place of the PE header leaves too few bytes behind it.
+    /// The place of the PE header leaves too few bytes after it.
     Lfanew,
     /// The PE header's signature isn't there.
     Signature,

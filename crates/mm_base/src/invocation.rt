@@ -1,5 +1,5 @@
 //! One run of one handler, with what it was denied and what it wrote.
-ghost use Rattle.std.specs.Prelude.{◌≡◌, ◌<◌, [], ◌∷◌, ◌++◌, length, IfOk};
+ghost use Rattle.std.specs.Prelude.{◌≡◌, ◌<◌, ◌≤◌, [], ◌∷◌, ◌++◌, length, IfOk};
 
 use crate::{CellWrite, Denial, List, NoMemory, Room, Why};
 use std::alloc::Global;
@@ -11,13 +11,18 @@ pub const MOST_DENIALS: usize = 8;
 /// How many cell writes an invocation may make.
 pub const MOST_WRITES: usize = 16;
 
-/// A fault of the byte code.
+/// A fault of byte code.
 #[derive(Clone, Copy, Debug, PartialEq, Eq)]
 pub enum FaultKind {
+    /// The bytes begin no instruction.
     Encoding,
+    /// A division by 0.
     Divide,
+    /// Code at an odd address.
     Alignment,
+    /// BREAK 0.
     Break,
+    /// A native call to neither a service nor code.
     NativeCall,
 }
 
@@ -25,10 +30,13 @@ pub enum FaultKind {
 #[derive(Clone, Copy, Debug, PartialEq, Eq)]
 pub enum Ended {
     Returned(u64),
+    /// An access was denied that stops it.
     Denied(Why, u64),
+    /// Its fuel was used up.
     Fuel(u64),
     Fault(FaultKind, u64),
-    NoMemory,
+    /// A service was refused a growth.
+    NoMemory(NoMemory),
 }
 
 /// One run of one handler: its number, how it ended, and its records in the order in which they were made.
@@ -49,14 +57,13 @@ pub struct Records {
 
 impl Model for Records {
     ghost use Rattle.std.specs.Prelude.{◌≡◌};
-    ghost use Rattle.mm_base.specs.declared.invocation.TheConstants.{MOST_DENIALS, MOST_WRITES};
-    ghost use Rattle.mm_base.specs.Records.{Recorded};
+    ghost use Rattle.mm_base.specs.Records.{RecordsState};
 
-    ghost Value = { Recorded };
+    ghost Value = { RecordsState };
 
     ghost view = { λ r. record { denials = r.denials.items; writes = r.writes.items } };
 
-    ghost invariant = { λ r. (r.denials.room ≡ MOST_DENIALS) × (r.writes.room ≡ MOST_WRITES) };
+    ghost invariant = { λ r. (r.denials.room ≡ 8) × (r.writes.room ≡ 16) };
 }
 
 impl Records {
@@ -77,17 +84,33 @@ impl Records {
         self.writes.clear();
     }
 
-    /// Records a denial.
+    /// How many denials there are: 8 at most.
+    pub fn denials(&self) -> usize
+        ensures value { result ≡ length self.now.denials }
+        ensures within { length self.now.denials ≤ 8 }
+    {
+        self.denials.len()
+    }
+
+    /// How many cell writes there are: 16 at most.
+    pub fn writes(&self) -> usize
+        ensures value { result ≡ length self.now.writes }
+        ensures within { length self.now.writes ≤ 16 }
+    {
+        self.writes.len()
+    }
+
+    /// Records a denial. There are fewer than 8, which `denials` tells.
     pub fn deny(&mut self, denial: Denial)
-        requires { length self.old.denials < MOST_DENIALS }
+        requires { length self.old.denials < 8 }
         ensures { self.new ≡ record { denials = self.old.denials ++ denial ∷ []; writes = self.old.writes } }
     {
         self.denials.push(denial);
     }
 
-    /// Records a cell write.
+    /// Records a cell write. There are fewer than 16, which `writes` tells.
     pub fn write(&mut self, write: CellWrite)
-        requires { length self.old.writes < MOST_WRITES }
+        requires { length self.old.writes < 16 }
         ensures { self.new ≡ record { denials = self.old.denials; writes = self.old.writes ++ write ∷ [] } }
     {
         self.writes.push(write);

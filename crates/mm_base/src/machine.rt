@@ -9,7 +9,7 @@ use crate::Prepared;
 
 /// Whatever answers captured requests, one after another. Its meaning is one function.
 pub trait Machine {
-    /// The outcome of a request, and the machine behind it.
+    /// The outcome of a request, and the machine after it.
     ghost stepped: { Self → Request → Outcome × Self };
 
     /// The most invocations that one entry has.

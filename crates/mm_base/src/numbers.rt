@@ -1,7 +1,7 @@
 //! Numbers in bytes, the lowest byte first.
 ghost use Rattle.std.specs.Prelude.{◌≡◌, ◌+◌, ◌*◌, ◌≤◌, ◌<◌, ◌↔◌, IsSome, IfSome, take, drop, length};
 ghost use Rattle.std.specs.Str.{bytes_eq};
-ghost use Rattle.mm_base.specs.Numbers.{number_of, number_at as number_there, word_at as word_of_bytes, bytes_of_word};
+ghost use Rattle.mm_base.specs.Numbers.{number_of, number_in, word_in, bytes_of_word};
 
 use byteorder::{ByteOrder, LittleEndian};
 
@@ -28,7 +28,7 @@ pub fn number_at(bytes: &[u8], at: usize, n: u8) -> u64
     requires low { 1 ≤ n }
     requires high { n ≤ 8 }
     requires within { at + n ≤ length bytes.now }
-    ensures { result ≡ number_there bytes.now at n }
+    ensures { result ≡ number_in bytes.now at n }
 {
     le_at(bytes, at, n).unwrap()
 }
@@ -45,7 +45,7 @@ pub fn stands_at(bytes: &[u8], at: usize, wanted: &[u8]) -> bool
 /// Word `j` of bytes; what is past their end counts as 0.
 pub fn word_at(bytes: &[u8], j: usize) -> u64
     requires { 8 * j < length bytes.now }
-    ensures { result ≡ word_of_bytes bytes.now j }
+    ensures { result ≡ word_in bytes.now j }
 {
     let (_, rest) = bytes.split_at(WORD_BYTES * j);
     let count = WORD_BYTES.min(rest.len());

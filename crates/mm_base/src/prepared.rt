@@ -1,7 +1,7 @@
-//! The memory of one entry, which is taken before the entry's first load, so that nothing behind it can refuse.
+//! The memory of one entry, which is taken before the entry's first load, so that nothing after it can refuse.
 ghost use Rattle.std.specs.Prelude.{◌≡◌, ◌+◌, ◌≤◌, ◌<◌, [], ◌∷◌, ◌++◌, length, take, vec_len, IfOk};
 ghost use Rattle.mm_base.specs.Entry.{blank_entry};
-ghost use Rattle.mm_base.specs.Receipt.{told};
+ghost use Rattle.mm_base.specs.Receipt.{receipt_of};
 
 use crate::entries::Chain;
 use crate::{
@@ -37,11 +37,11 @@ pub struct OutcomeRooms {
 }
 
 impl Model for Prepared {
-    ghost use Rattle.std.specs.Prelude.{◌≡◌, ◌≤◌, [], vec_len};
-    ghost use Rattle.mm_base.specs.Room.{roomy_code};
-    ghost use Rattle.mm_base.specs.Prepared.{Readied};
+    ghost use Rattle.std.specs.Prelude.{◌≡◌, ◌≤◌, [], length, vec_len};
+    ghost use Rattle.mm_base.specs.Room.{room_code};
+    ghost use Rattle.mm_base.specs.Prepared.{PreparedState};
 
-    ghost Value = { Readied };
+    ghost Value = { PreparedState };
 
     ghost view = { λ p. record {
       entry = p.entry;
@@ -52,6 +52,8 @@ impl Model for Prepared {
     } };
 
     ghost invariant = { λ p. record {
+      request : length p.entry.request.bytes ≤ 4096;
+      captured : p.captured.room ≤ 4096;
       reply : p.reply.items ≡ [];
       second : p.second.items ≡ [];
       chain : p.chain ≡ record { items = []; room = vec_len p.blanks };
@@ -60,10 +62,10 @@ impl Model for Prepared {
 }
 
 impl Prepared {
-    /// Room for a request and a reply of so many bytes, and for so many invocations with all their records. It costs
-    /// one step an invocation.
+    /// Room for a request and a reply of `bytes` bytes, and for `calls` invocations with all their records. It costs one
+    /// step an invocation.
     pub fn new(alloc: Global, bytes: u32, calls: u32) -> Result<Prepared, NoMemory>
-        requires { bytes ≤ MOST_BYTES }
+        requires { bytes ≤ 4096 }
         ensures { IfOk result (λ p. p ≡ record {
           entry = blank_entry;
           captured = record { items = []; room = bytes };
@@ -88,9 +90,10 @@ impl Prepared {
         })
     }
 
-    /// The entry so far.
+    /// The entry so far. Its request has at most 4,096 bytes.
     pub fn entry(&self) -> &Entry
-        ensures { result.now ≡ self.now.entry }
+        ensures value { result.now ≡ self.now.entry }
+        ensures few { length self.now.entry.request.bytes ≤ 4096 }
     {
         &self.entry
     }
@@ -159,7 +162,7 @@ impl Prepared {
     /// What the outcome tells at this position, with the reply copied into the second buffer.
     pub fn receipt(&mut self, position: u64) -> Receipt
         requires { length self.old.entry.outcome.reply ≤ self.old.second }
-        ensures told { result ≡ told position self.old.entry.outcome }
+        ensures told { result ≡ receipt_of position self.old.entry.outcome }
         ensures left { self.new ≡ record self.old { second = 0 } }
     {
         let second = self.second.take(self.alloc);
@@ -185,7 +188,7 @@ impl Prepared {
     }
 }
 
-/// So many blank records.
+/// `calls` blank records.
 fn blank_records(alloc: Global, calls: u32) -> Result<Vec<Records>, NoMemory>
     ensures { IfOk result (λ blanks. vec_len blanks ≡ calls) }
 {

@@ -1,6 +1,6 @@
 //! Ranges of bytes or cells.
 ghost use Rattle.std.specs.Prelude.{◌≡◌, ◌+◌, ◌^◌, ◌≤◌, ◌↔◌, IsSome, IfSome};
-ghost use Rattle.mm_base.specs.Range.{covers as covers_all, overlaps as shares_one};
+ghost use Rattle.mm_base.specs.Range.{encloses, share_a_unit};
 
 /// The `length` units from `base` on. A range that `new` makes ends at 2^64 or before.
 #[derive(Clone, Copy, Debug, PartialEq, Eq)]
@@ -10,7 +10,7 @@ pub struct Range {
 }
 
 impl Range {
-    /// The range; None where it would end behind 2^64.
+    /// The range; None where it would end past 2^64.
     pub fn new(base: u64, length: u64) -> Option<Range>
         ensures fits { IsSome result ↔ (base + length ≤ 2 ^ 64) }
         ensures value { IfSome result (λ range. range ≡ record { base = base; length = length }) }
@@ -24,7 +24,7 @@ impl Range {
 
     /// Whether some unit is in both ranges. An empty range overlaps nothing.
     pub fn overlaps(&self, other: &Range) -> bool
-        ensures { result ≡ shares_one self.now other.now }
+        ensures { result ≡ share_a_unit self.now other.now }
     {
         if self.base <= other.base {
             other.length > 0 && other.base - self.base < self.length
@@ -35,7 +35,7 @@ impl Range {
 
     /// Whether the other range lies in this one, from its begin to its end.
     pub fn covers(&self, other: &Range) -> bool
-        ensures { result ≡ covers_all self.now other.now }
+        ensures { result ≡ encloses self.now other.now }
     {
         if other.base < self.base {
             return false;

@@ -1,6 +1,6 @@
 //! What an entry tells the processor that made it.
 ghost use Rattle.std.specs.Prelude.{◌≡◌, ◌≤◌, [], length};
-ghost use Rattle.mm_base.specs.Receipt.{told};
+ghost use Rattle.mm_base.specs.Receipt.{receipt_of};
 
 use crate::{List, Outcome, Room};
 
@@ -18,7 +18,7 @@ impl Receipt {
     pub fn new(position: u64, outcome: &Outcome, mut room: Room<u8>) -> Receipt
         requires empty { room.items ≡ [] }
         requires fits { length outcome.now.reply ≤ room.room }
-        ensures { result ≡ told position outcome.now }
+        ensures { result ≡ receipt_of position outcome.now }
     {
         room.extend(outcome.reply.as_slice());
         Receipt {

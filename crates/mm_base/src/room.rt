@@ -15,11 +15,11 @@ pub struct Room<T> {
 
 impl<T> Model for Room<T> {
     ghost use Rattle.std.specs.Prelude.{◌≤◌, vec_len, vec_capacity};
-    ghost use Rattle.mm_base.specs.Room.{Roomy, roomy_code};
+    ghost use Rattle.mm_base.specs.Room.{RoomState, room_code};
 
-    ghost Value = { Roomy T };
+    ghost Value = { RoomState T };
 
-    ghost coded = { roomy_code T.code };
+    ghost coded = { room_code T.code };
 
     ghost view = { λ r. record { items = r.items.items; room = r.room } };
 
@@ -37,7 +37,7 @@ impl<T> Room<T> {
         }
     }
 
-    /// Place for so many items.
+    /// Place for `room` items.
     pub fn new(alloc: Global, room: usize) -> Result<Room<T>, NoMemory>
         ensures { IfOk result (λ r. r ≡ record { items = []; room = room }) }
     {
@@ -60,7 +60,7 @@ impl<T> Room<T> {
         self.items.len()
     }
 
-    /// Sees to it that there is place for so many items more.
+    /// Sees to it that there is place for `more` items more.
     pub fn reserve(&mut self, more: usize) -> Result<(), NoMemory>
         ensures ok { OnOk result (self.new ≡ record { items = self.old.items; room = max self.old.room (length self.old.items + more) }) }
         ensures err { OnErr result (self.new ≡ self.old) }
@@ -96,7 +96,7 @@ impl<T: Drop> Room<T> {
         self.items.push_reserved(item);
     }
 
-    /// Keeps the first so many items.
+    /// Keeps the first `len` items.
     pub fn truncate(&mut self, len: usize)
         ensures { self.new ≡ record { items = take len self.old.items; room = self.old.room } }
     {

@@ -1,4 +1,5 @@
-//! Status codes of the UEFI and PI specifications, as they stand in a lane's status word. The top bit marks an error.
+//! Status codes of the UEFI and PI specifications, as they stand in registers and in a lane's status word. The top bit marks an
+//! error. `laws::statuses` says which number each is.
 
 /// All went well.
 pub const SUCCESS: u64 = 0;
@@ -17,7 +18,7 @@ pub const TIMEOUT: u64 = 0x8000_0000_0000_0012;
 
 pub const ABORTED: u64 = 0x8000_0000_0000_0015;
 
-/// An interrupt is pending. The number is this project's own, as are the two below.
+/// An interrupt is pending. The number is this project's own, as are the next two.
 pub const INTERRUPT_PENDING: u64 = 0xa000_0000_0000_0000;
 
 pub const WARN_INTERRUPT_SOURCE_PENDING: u64 = 0x2000_0000_0000_0000;

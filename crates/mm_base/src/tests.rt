@@ -2,8 +2,9 @@ ghost use Rattle.std.specs.Prelude.{◌≡◌, ◌≤◌, [], length, IfOk};
 
 use crate::{
     CellWrite, Denial, Ended, Entries, Guid, Invocation, Kind, List, NoMemory, Outcome,
-    OutcomeRooms, Prepared, Range, Receipt, Records, Right, Room, Saved, Shape, Why, guid_at,
-    is_cell, le_at, status, word_at,
+    OutcomeRooms, PeFault, PeKind, Prepared, Range, Receipt, Records, Region, Right, Room, Saved,
+    Service, Shape, Why, check, guid_at, is_cell, le_at, pages_for, service_entry, service_slot,
+    status, word_at,
 };
 use std::alloc::Global;
 use std::test::Fail;
@@ -308,4 +309,77 @@ fn compares_ranges(rt: HostRuntime) {
     assert_eq!(rt; Range::new(u64::MAX, 1).is_some(), true);
     assert_eq!(rt; Range::new(u64::MAX, 2).is_some(), false);
     assert_eq!(rt; Range::new(2, u64::MAX).is_some(), false);
+}
+
+// The region of an image of one page at the begin of memory, part by part.
+const REGION: Region = Region {
+    base: 0x8000_0000,
+    pages: 1,
+};
+
+fn parts() -> [(u64, u64); 6] {
+    [
+        REGION.whole(),
+        REGION.stack(),
+        REGION.communicate_page(),
+        REGION.service_page(),
+        REGION.pool(),
+        REGION.reserve(),
+    ]
+    .map(|part| (part.base, part.length))
+}
+
+#[test]
+fn parts_of_a_region(rt: HostRuntime) {
+    let expected = [
+        (0x8000_0000, 0x2_7000),
+        (0x8000_1000, 0x4000),
+        (0x8000_5000, 0x1000),
+        (0x8000_6000, 0x1000),
+        (0x8000_7000, 0x1_0000),
+        (0x8001_7000, 0x1_0000),
+    ];
+    assert_eq!(rt; parts(), expected);
+    assert_eq!(rt;
+        (pages_for(0), pages_for(1), pages_for(4096), pages_for(4097)),
+        (0, 1, 1, 2)
+    );
+}
+
+#[test]
+fn places_of_services(rt: HostRuntime) {
+    assert_eq!(rt;
+        (service_slot(0), service_slot(9), service_slot(19)),
+        (0, 72, 152)
+    );
+    assert_eq!(rt;
+        (service_entry(0x8000_6000, 0), service_entry(0x8000_6000, 9)),
+        (0x8000_6100, 0x8000_6190)
+    );
+    assert_eq!(rt; Service::of_number(12), Some(Service::IoRead));
+    assert_eq!(rt; Service::of_number(20), None);
+}
+
+#[test]
+fn rights_as_bits(rt: HostRuntime) {
+    assert_eq!(rt;
+        (Right::Read.bit(), Right::Write.bit(), Right::Execute.bit()),
+        (1, 2, 4)
+    );
+    assert_eq!(rt;
+        (Right::Write.is_among(5), Right::Execute.is_among(5)),
+        (false, true)
+    );
+}
+
+#[test]
+fn checks_one_thing(rt: HostRuntime) {
+    let fault = PeFault {
+        at: 60,
+        kind: PeKind::Lfanew,
+    };
+    assert_eq!(rt;
+        (check(true, fault), check(false, fault)),
+        (Ok(()), Err(fault))
+    );
 }

@@ -48,7 +48,7 @@ pub struct Volume {
     pub files: List<File>,
 }
 
-/// A section of a file: its type, and the place and length of its data behind its header.
+/// A section of a file: its type, and the place and length of its data after its header.
 #[derive(Clone, Copy, Debug, PartialEq, Eq)]
 pub struct Section {
     pub kind: u8,

@@ -2,7 +2,7 @@
 use Rattle.std.proofs.Common.{◌≡◌, ◌+◌, ◌-◌, length-drop, ℕ, min, List, [], ◌++◌, length, take, drop, sym, ap, ◌∙◌, append-nil}
 use Rattle.std.proofs.Math.Seq.{take-add, take-length, drop-length}
 use Rattle.std.proofs.lemmas.List.{take_min, take-append-drop}
-use Rattle.mm_base.specs.Room.{Roomy}
+use Rattle.mm_base.specs.Room.{RoomState}
 use Rattle.mm_core.specs.Buffered.{Buffered}
 use Rattle.mm_core.specs.Invoked.{no_message}
 
@@ -26,7 +26,7 @@ all_front items room len e =
     ∙ ap (λ (ys : List ℕ). record { front = items; message = record { buffer = ys; size = 0 }; room = room }) (drop-length items)
 
 -- a room that is cut behind the reply and the first n bytes behind it
-pub closed : (before after : Roomy ℕ) (front n kept len : ℕ) → kept ≡ min n (length before.items - front) → after ≡ record { items = take (front + kept) before.items; room = before.room } → len ≡ length after.items
+pub closed : (before after : RoomState ℕ) (front n kept len : ℕ) → kept ≡ min n (length before.items - front) → after ≡ record { items = take (front + kept) before.items; room = before.room } → len ≡ length after.items
     → (let left : Buffered = record { front = take len after.items; message = record { buffer = drop len after.items; size = 0 }; room = after.room } in
     left ≡ record { front = take front before.items ++ take n (drop front before.items); message = no_message; room = before.room })
 closed before after front n kept len k a l =

@@ -3,7 +3,7 @@ use Rattle.std.proofs.Common.{◌≡◌, ℕ, zero, suc, ◌+◌, ◌≤◌, ◌
 use Rattle.std.specs.Option.{option_eq, is_some}
 use Rattle.std.proofs.lemmas.List.{append-nil, drop_all}
 use Rattle.mm_base.specs.Guid.{same_guid}
-use Rattle.mm_base.specs.Room.{Roomy}
+use Rattle.mm_base.specs.Room.{RoomState}
 use Rattle.mm_base.specs.declared.cells.Saved.{Saved}
 use Rattle.mm_base.specs.declared.guid.Guid.{Guid}
 use Rattle.mm_base.specs.declared.handler.Handler.{Handler}
@@ -35,7 +35,7 @@ abbrev run_of : CoreState → Handler → Answer → Invoked
 run_of core handler answer = record { invocation = returned handler answer.status; message = answer.message; live = core.live }
 
 -- what is kept at place k of the handlers, from the buffer, invocations and blanks of the start on
-pub record Halfway (core : CoreState) (guid : Option Guid) (saved : Saved) (first : Buffered) (before : Roomy Invocation) (most k so_far : ℕ) (held : Buffered) (made : Roomy Invocation) (left : ℕ) : Type 0 where
+pub record Halfway (core : CoreState) (guid : Option Guid) (saved : Saved) (first : Buffered) (before : RoomState Invocation) (most k so_far : ℕ) (held : Buffered) (made : RoomState Invocation) (left : ℕ) : Type 0 where
   pub given : IsGiven (is_root guid) held.message
   pub result : result_from (is_root guid) NOT_FOUND (statuses_of (managed core guid saved first.message)) ≡ result_from (is_root guid) so_far (statuses_of (left_at core guid saved k held.message))
   pub message : message_behind first.message (managed core guid saved first.message) ≡ message_behind held.message (left_at core guid saved k held.message)
@@ -47,14 +47,14 @@ pub record Halfway (core : CoreState) (guid : Option Guid) (saved : Saved) (firs
   pub enough : length (chain_of guid (drop k core.site.handlers)) ≤ left
 
 -- what stands at the end of the chain
-pub record Managed (core : CoreState) (guid : Option Guid) (saved : Saved) (first : Buffered) (before : Roomy Invocation) (most so_far : ℕ) (held : Buffered) (made : Roomy Invocation) (left : ℕ) : Type 0 where
+pub record Managed (core : CoreState) (guid : Option Guid) (saved : Saved) (first : Buffered) (before : RoomState Invocation) (most so_far : ℕ) (held : Buffered) (made : RoomState Invocation) (left : ℕ) : Type 0 where
   pub result : so_far ≡ result_from (is_root guid) NOT_FOUND (statuses_of (managed core guid saved first.message))
   pub message : held ≡ record first { message = message_behind first.message (managed core guid saved first.message) }
   pub invocations : made ≡ record { items = before.items ++ invocations_of (managed core guid saved first.message); room = before.room }
   pub blanks : left + length (managed core guid saved first.message) ≡ most
 
 -- at the start all handlers are left
-pub at_start : (core : CoreState) (guid : Option Guid) (saved : Saved) (first : Buffered) (before : Roomy Invocation) (blanks : ℕ) → IsGiven (is_root guid) first.message → length before.items + length (chain_of guid core.site.handlers) ≤ before.room → length (chain_of guid core.site.handlers) ≤ blanks → Halfway core guid saved first before blanks 0 NOT_FOUND first before blanks
+pub at_start : (core : CoreState) (guid : Option Guid) (saved : Saved) (first : Buffered) (before : RoomState Invocation) (blanks : ℕ) → IsGiven (is_root guid) first.message → length before.items + length (chain_of guid core.site.handlers) ≤ before.room → length (chain_of guid core.site.handlers) ≤ blanks → Halfway core guid saved first before blanks 0 NOT_FOUND first before blanks
 unfolding left_at managed
 at_start core guid saved first before blanks given place enough = record {
   given = given;
@@ -69,7 +69,7 @@ at_start core guid saved first before blanks given place enough = record {
 }
 
 -- where nothing is left, the chain is done
-done : (core : CoreState) (guid : Option Guid) (saved : Saved) (first : Buffered) (before : Roomy Invocation) (blanks k result : ℕ) (buffer : Buffered) (invocations : Roomy Invocation) (left : ℕ) → left_at core guid saved k buffer.message ≡ [] → Halfway core guid saved first before blanks k result buffer invocations left → Managed core guid saved first before blanks result buffer invocations left
+done : (core : CoreState) (guid : Option Guid) (saved : Saved) (first : Buffered) (before : RoomState Invocation) (blanks k result : ℕ) (buffer : Buffered) (invocations : RoomState Invocation) (left : ℕ) → left_at core guid saved k buffer.message ≡ [] → Halfway core guid saved first before blanks k result buffer invocations left → Managed core guid saved first before blanks result buffer invocations left
 done core guid saved first before blanks k result buffer invocations left none halfway =
     let items : before.items ++ invocations_of (managed core guid saved first.message) ≡ invocations.items = halfway.invocations ∙ ap (λ runs. invocations.items ++ invocations_of runs) none ∙ append-nil invocations.items in
     record {
@@ -80,7 +80,7 @@ done core guid saved first before blanks k result buffer invocations left none h
     }
 
 -- past the last handler the chain is done
-pub at_end : (core : CoreState) (guid : Option Guid) (saved : Saved) (first : Buffered) (before : Roomy Invocation) (blanks k result : ℕ) (buffer : Buffered) (invocations : Roomy Invocation) (left : ℕ) → length core.site.handlers ≤ k → Halfway core guid saved first before blanks k result buffer invocations left → Managed core guid saved first before blanks result buffer invocations left
+pub at_end : (core : CoreState) (guid : Option Guid) (saved : Saved) (first : Buffered) (before : RoomState Invocation) (blanks k result : ℕ) (buffer : Buffered) (invocations : RoomState Invocation) (left : ℕ) → length core.site.handlers ≤ k → Halfway core guid saved first before blanks k result buffer invocations left → Managed core guid saved first before blanks result buffer invocations left
 unfolding left_at
 at_end core guid saved first before blanks k result buffer invocations left past halfway =
     done core guid saved first before blanks k result buffer invocations left
@@ -101,7 +101,7 @@ chosen_at guid handlers k handler b found e =
     ∙ ap (λ c. cond c (handler ∷ chain_of guid (drop (k + 1) handlers)) (chain_of guid (drop (k + 1) handlers))) e
 
 -- a handler of another chain changes nothing
-pub passed : (core : CoreState) (guid : Option Guid) (saved : Saved) (first : Buffered) (before : Roomy Invocation) (blanks k result : ℕ) (buffer : Buffered) (invocations : Roomy Invocation) (left : ℕ) (handler : Handler) → slice_get core.site.handlers k ≡ Some handler → option_eq same_guid handler.guid guid ≡ false → Halfway core guid saved first before blanks k result buffer invocations left → Halfway core guid saved first before blanks (k + 1) result buffer invocations left
+pub passed : (core : CoreState) (guid : Option Guid) (saved : Saved) (first : Buffered) (before : RoomState Invocation) (blanks k result : ℕ) (buffer : Buffered) (invocations : RoomState Invocation) (left : ℕ) (handler : Handler) → slice_get core.site.handlers k ≡ Some handler → option_eq same_guid handler.guid guid ≡ false → Halfway core guid saved first before blanks k result buffer invocations left → Halfway core guid saved first before blanks (k + 1) result buffer invocations left
 unfolding left_at
 passed core guid saved first before blanks k result buffer invocations left handler found other halfway =
     let same : chain_of guid (drop k core.site.handlers) ≡ chain_of guid (drop (k + 1) core.site.handlers) = chosen_at guid core.site.handlers k handler false found other in
@@ -140,7 +140,7 @@ given_behind false body message given = refl
 given_behind true body message given = sym (ap (λ m. (answer_of body m).message) (sym given) ∙ answer_of-no_message body)
 
 -- a handler of the chain that doesn't stop it
-pub called : (core : CoreState) (guid : Option Guid) (saved : Saved) (first : Buffered) (before : Roomy Invocation) (blanks k result : ℕ) (buffer : Buffered) (invocations : Roomy Invocation) (left : ℕ) (handler : Handler) → slice_get core.site.handlers k ≡ Some handler → option_eq same_guid handler.guid guid ≡ true
+pub called : (core : CoreState) (guid : Option Guid) (saved : Saved) (first : Buffered) (before : RoomState Invocation) (blanks k result : ℕ) (buffer : Buffered) (invocations : RoomState Invocation) (left : ℕ) (handler : Handler) → slice_get core.site.handlers k ≡ Some handler → option_eq same_guid handler.guid guid ≡ true
     → (let answer = answer_of handler.body buffer.message in
     stops (is_root guid) answer.status ≡ false → (behind : ℕ) → behind + 1 ≡ left → Halfway core guid saved first before blanks k result buffer invocations left
     → Halfway core guid saved first before blanks (k + 1) (result_behind (is_root guid) result answer.status) (record buffer { message = answer.message }) (record { items = invocations.items ++ returned handler answer.status ∷ []; room = invocations.room }) behind)
@@ -164,13 +164,13 @@ called core guid saved first before blanks k result buffer invocations left hand
     }
 
 -- there is place for a handler of the chain
-pub has_place : (core : CoreState) (guid : Option Guid) (saved : Saved) (first : Buffered) (before : Roomy Invocation) (blanks k result : ℕ) (buffer : Buffered) (invocations : Roomy Invocation) (left : ℕ) (handler : Handler) → slice_get core.site.handlers k ≡ Some handler → option_eq same_guid handler.guid guid ≡ true → Halfway core guid saved first before blanks k result buffer invocations left → (length invocations.items < invocations.room) × (0 < left)
+pub has_place : (core : CoreState) (guid : Option Guid) (saved : Saved) (first : Buffered) (before : RoomState Invocation) (blanks k result : ℕ) (buffer : Buffered) (invocations : RoomState Invocation) (left : ℕ) (handler : Handler) → slice_get core.site.handlers k ≡ Some handler → option_eq same_guid handler.guid guid ≡ true → Halfway core guid saved first before blanks k result buffer invocations left → (length invocations.items < invocations.room) × (0 < left)
 has_place core guid saved first before blanks k result buffer invocations left handler found own halfway =
     let chosen : chain_of guid (drop k core.site.handlers) ≡ handler ∷ chain_of guid (drop (k + 1) core.site.handlers) = chosen_at guid core.site.handlers k handler true found own in
     (omega (arith, halfway.place, ap length chosen), omega (arith, halfway.enough, ap length chosen))
 
 -- a handler of the chain that stops it
-pub stopped : (core : CoreState) (guid : Option Guid) (saved : Saved) (first : Buffered) (before : Roomy Invocation) (blanks k result : ℕ) (buffer : Buffered) (invocations : Roomy Invocation) (left : ℕ) (handler : Handler) → slice_get core.site.handlers k ≡ Some handler → option_eq same_guid handler.guid guid ≡ true
+pub stopped : (core : CoreState) (guid : Option Guid) (saved : Saved) (first : Buffered) (before : RoomState Invocation) (blanks k result : ℕ) (buffer : Buffered) (invocations : RoomState Invocation) (left : ℕ) (handler : Handler) → slice_get core.site.handlers k ≡ Some handler → option_eq same_guid handler.guid guid ≡ true
     → (let answer = answer_of handler.body buffer.message in
     stops (is_root guid) answer.status ≡ true → (behind : ℕ) → behind + 1 ≡ left → Halfway core guid saved first before blanks k result buffer invocations left
     → Managed core guid saved first before blanks (result_behind (is_root guid) result answer.status) (record buffer { message = answer.message }) (record { items = invocations.items ++ returned handler answer.status ∷ []; room = invocations.room }) behind)
@@ -198,7 +198,7 @@ root_is (Some guid) true h = absurd (cc)
 root_is (Some guid) false h = refl
 
 -- what the code knows of a handler of the chain that it called at place k
-pub record Call (core : CoreState) (guid : Option Guid) (k so_far : ℕ) (held : Buffered) (made : Roomy Invocation) (left : ℕ) (handler : Handler) (root : Bool) (status behind : ℕ) (held_behind : Buffered) (made_behind : Roomy Invocation) (left_behind : ℕ) : Type 0 where
+pub record Call (core : CoreState) (guid : Option Guid) (k so_far : ℕ) (held : Buffered) (made : RoomState Invocation) (left : ℕ) (handler : Handler) (root : Bool) (status behind : ℕ) (held_behind : Buffered) (made_behind : RoomState Invocation) (left_behind : ℕ) : Type 0 where
   pub found : slice_get core.site.handlers k ≡ Some handler
   pub own : option_eq same_guid handler.guid guid ≡ true
   pub kind : root ≡ is_root guid
@@ -208,19 +208,19 @@ pub record Call (core : CoreState) (guid : Option Guid) (k so_far : ℕ) (held :
   pub left_is : left_behind + 1 ≡ left
   pub behind_is : behind ≡ result_behind root so_far status
 
-call_behind : (core : CoreState) (guid : Option Guid) (k so_far : ℕ) (held : Buffered) (made : Roomy Invocation) (left : ℕ) (handler : Handler) (root : Bool) (status behind : ℕ) (held_behind : Buffered) (made_behind : Roomy Invocation) (left_behind : ℕ) → Call core guid k so_far held made left handler root status behind held_behind made_behind left_behind → behind ≡ result_behind (is_root guid) so_far (answer_of handler.body held.message).status
+call_behind : (core : CoreState) (guid : Option Guid) (k so_far : ℕ) (held : Buffered) (made : RoomState Invocation) (left : ℕ) (handler : Handler) (root : Bool) (status behind : ℕ) (held_behind : Buffered) (made_behind : RoomState Invocation) (left_behind : ℕ) → Call core guid k so_far held made left handler root status behind held_behind made_behind left_behind → behind ≡ result_behind (is_root guid) so_far (answer_of handler.body held.message).status
 call_behind core guid k so_far held made left handler root status behind held_behind made_behind left_behind call =
     call.behind_is ∙ ap (λ r. result_behind r so_far status) call.kind ∙ ap (result_behind (is_root guid) so_far) call.status_is
 
-call_stops : (core : CoreState) (guid : Option Guid) (k so_far : ℕ) (held : Buffered) (made : Roomy Invocation) (left : ℕ) (handler : Handler) (root : Bool) (status behind : ℕ) (held_behind : Buffered) (made_behind : Roomy Invocation) (left_behind : ℕ) → Call core guid k so_far held made left handler root status behind held_behind made_behind left_behind → (b : Bool) → stops root status ≡ b → stops (is_root guid) (answer_of handler.body held.message).status ≡ b
+call_stops : (core : CoreState) (guid : Option Guid) (k so_far : ℕ) (held : Buffered) (made : RoomState Invocation) (left : ℕ) (handler : Handler) (root : Bool) (status behind : ℕ) (held_behind : Buffered) (made_behind : RoomState Invocation) (left_behind : ℕ) → Call core guid k so_far held made left handler root status behind held_behind made_behind left_behind → (b : Bool) → stops root status ≡ b → stops (is_root guid) (answer_of handler.body held.message).status ≡ b
 call_stops core guid k so_far held made left handler root status behind held_behind made_behind left_behind call b is =
     ap (stops (is_root guid)) (sym call.status_is) ∙ ap (λ r. stops r status) (sym call.kind) ∙ is
 
 -- behind a call that goes on
-pub goes_on : (core : CoreState) (guid : Option Guid) (saved : Saved) (first : Buffered) (before : Roomy Invocation) (most k so_far : ℕ) (held : Buffered) (made : Roomy Invocation) (left : ℕ) (handler : Handler) (root : Bool) (status behind : ℕ) (held_behind : Buffered) (made_behind : Roomy Invocation) (left_behind : ℕ) → Halfway core guid saved first before most k so_far held made left → Call core guid k so_far held made left handler root status behind held_behind made_behind left_behind → stops root status ≡ false → Halfway core guid saved first before most (k + 1) behind held_behind made_behind left_behind
+pub goes_on : (core : CoreState) (guid : Option Guid) (saved : Saved) (first : Buffered) (before : RoomState Invocation) (most k so_far : ℕ) (held : Buffered) (made : RoomState Invocation) (left : ℕ) (handler : Handler) (root : Bool) (status behind : ℕ) (held_behind : Buffered) (made_behind : RoomState Invocation) (left_behind : ℕ) → Halfway core guid saved first before most k so_far held made left → Call core guid k so_far held made left handler root status behind held_behind made_behind left_behind → stops root status ≡ false → Halfway core guid saved first before most (k + 1) behind held_behind made_behind left_behind
 goes_on core guid saved first before most k so_far held made left handler root status behind held_behind made_behind left_behind halfway call is =
     let answer = answer_of handler.body held.message in
-    let At : ℕ → Buffered → Roomy Invocation → Type 0 = λ r h m. Halfway core guid saved first before most (k + 1) r h m left_behind in
+    let At : ℕ → Buffered → RoomState Invocation → Type 0 = λ r h m. Halfway core guid saved first before most (k + 1) r h m left_behind in
     let r : ℕ = result_behind (is_root guid) so_far answer.status in
     let h : Buffered = record held { message = answer.message } in
     subst (λ (r' : ℕ). At r' held_behind made_behind) (sym (call_behind core guid k so_far held made left handler root status behind held_behind made_behind left_behind call))
@@ -229,10 +229,10 @@ goes_on core guid saved first before most k so_far held made left handler root s
     (called core guid saved first before most k so_far held made left handler call.found call.own (call_stops core guid k so_far held made left handler root status behind held_behind made_behind left_behind call false is) left_behind call.left_is halfway)))
 
 -- behind a call that stops the chain
-pub ends : (core : CoreState) (guid : Option Guid) (saved : Saved) (first : Buffered) (before : Roomy Invocation) (most k so_far : ℕ) (held : Buffered) (made : Roomy Invocation) (left : ℕ) (handler : Handler) (root : Bool) (status behind : ℕ) (held_behind : Buffered) (made_behind : Roomy Invocation) (left_behind : ℕ) → Halfway core guid saved first before most k so_far held made left → Call core guid k so_far held made left handler root status behind held_behind made_behind left_behind → stops root status ≡ true → Managed core guid saved first before most behind held_behind made_behind left_behind
+pub ends : (core : CoreState) (guid : Option Guid) (saved : Saved) (first : Buffered) (before : RoomState Invocation) (most k so_far : ℕ) (held : Buffered) (made : RoomState Invocation) (left : ℕ) (handler : Handler) (root : Bool) (status behind : ℕ) (held_behind : Buffered) (made_behind : RoomState Invocation) (left_behind : ℕ) → Halfway core guid saved first before most k so_far held made left → Call core guid k so_far held made left handler root status behind held_behind made_behind left_behind → stops root status ≡ true → Managed core guid saved first before most behind held_behind made_behind left_behind
 ends core guid saved first before most k so_far held made left handler root status behind held_behind made_behind left_behind halfway call is =
     let answer = answer_of handler.body held.message in
-    let At : ℕ → Buffered → Roomy Invocation → Type 0 = λ r h m. Managed core guid saved first before most r h m left_behind in
+    let At : ℕ → Buffered → RoomState Invocation → Type 0 = λ r h m. Managed core guid saved first before most r h m left_behind in
     let r : ℕ = result_behind (is_root guid) so_far answer.status in
     let h : Buffered = record held { message = answer.message } in
     subst (λ (r' : ℕ). At r' held_behind made_behind) (sym (call_behind core guid k so_far held made left handler root status behind held_behind made_behind left_behind call))
@@ -241,11 +241,11 @@ ends core guid saved first before most k so_far held made left handler root stat
     (stopped core guid saved first before most k so_far held made left handler call.found call.own (call_stops core guid k so_far held made left handler root status behind held_behind made_behind left_behind call true is) left_behind call.left_is halfway)))
 
 -- behind a handler that isn't called
-pub goes_past : (core : CoreState) (guid : Option Guid) (saved : Saved) (first : Buffered) (before : Roomy Invocation) (most k so_far : ℕ) (held : Buffered) (made : Roomy Invocation) (left : ℕ) (handler : Handler) (behind : ℕ) (held_behind : Buffered) (made_behind : Roomy Invocation) (left_behind : ℕ) → Halfway core guid saved first before most k so_far held made left → slice_get core.site.handlers k ≡ Some handler → option_eq same_guid handler.guid guid ≡ false → behind ≡ so_far → held_behind ≡ held → made_behind ≡ made → left_behind ≡ left → Halfway core guid saved first before most (k + 1) behind held_behind made_behind left_behind
+pub goes_past : (core : CoreState) (guid : Option Guid) (saved : Saved) (first : Buffered) (before : RoomState Invocation) (most k so_far : ℕ) (held : Buffered) (made : RoomState Invocation) (left : ℕ) (handler : Handler) (behind : ℕ) (held_behind : Buffered) (made_behind : RoomState Invocation) (left_behind : ℕ) → Halfway core guid saved first before most k so_far held made left → slice_get core.site.handlers k ≡ Some handler → option_eq same_guid handler.guid guid ≡ false → behind ≡ so_far → held_behind ≡ held → made_behind ≡ made → left_behind ≡ left → Halfway core guid saved first before most (k + 1) behind held_behind made_behind left_behind
 goes_past core guid saved first before most k so_far held made left handler behind held_behind made_behind left_behind halfway found other r h m l =
-    let At : ℕ → Buffered → Roomy Invocation → ℕ → Type 0 = λ r' h' m' l'. Halfway core guid saved first before most (k + 1) r' h' m' l' in
+    let At : ℕ → Buffered → RoomState Invocation → ℕ → Type 0 = λ r' h' m' l'. Halfway core guid saved first before most (k + 1) r' h' m' l' in
     subst (λ (r' : ℕ). At r' held_behind made_behind left_behind) (sym r)
     (subst (λ (h' : Buffered). At so_far h' made_behind left_behind) (sym h)
-    (subst (λ (m' : Roomy Invocation). At so_far held m' left_behind) (sym m)
+    (subst (λ (m' : RoomState Invocation). At so_far held m' left_behind) (sym m)
     (subst (At so_far held made) (sym l)
     (passed core guid saved first before most k so_far held made left handler found other halfway))))

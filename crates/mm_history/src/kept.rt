@@ -1,7 +1,7 @@
 //! A machine that keeps what it served.
 ghost use Rattle.std.specs.Prelude.{◌≡◌, ◌<◌, ◌^◌, [], ◌∷◌, ◌++◌, length};
 ghost use Rattle.mm_base.specs.Prepared.{Suffices};
-ghost use Rattle.mm_base.specs.Receipt.{told};
+ghost use Rattle.mm_base.specs.Receipt.{receipt_of};
 ghost use Rattle.mm_history.specs.History.{StandsForRun};
 
 use mm_base::{Entries, Machine, Prepared, Receipt};
@@ -57,7 +57,7 @@ impl<M: Machine> Kept<M> {
           request = prepared.entry.request;
           outcome = (M.stepped self.old.machine prepared.entry.request).0;
         } ∷ [] }
-        ensures receipt { result ≡ told (length self.old.entries) (M.stepped self.old.machine prepared.entry.request).0 }
+        ensures receipt { result ≡ receipt_of (length self.old.entries) (M.stepped self.old.machine prepared.entry.request).0 }
         ensures stands { (start : M) → StandsForRun M.stepped start self.old → StandsForRun M.stepped start self.new }
     {
         let position = self.entries.len();

@@ -5,7 +5,7 @@ use Rattle.std.proofs.lemmas.List.{length-append, take_all}
 use Rattle.std.proofs.lemmas.List.Elements.{All-nil, All-cons, All-head, All-tail, All-append}
 use Rattle.std.proofs.lemmas.List.Sums.{sum_by-cons, sum_by-append}
 use Rattle.std.specs.List.{All, flat_map, list_all, sum_by}
-use Rattle.mm_base.specs.Cells.{is_cell, IsOpeningCell}
+use Rattle.mm_base.specs.Cells.{may_hold, IsOpeningCell}
 use Rattle.mm_base.specs.Numbers.{words_of_bytes, words_for, first_words}
 use Rattle.mm_base.specs.declared.cells.CellWrite.{CellWrite}
 use Rattle.mm_base.specs.declared.handler.Handler.{Handler as Registered}
@@ -189,7 +189,7 @@ bounding-ring before lane registers b some inside =
       events = one_event (lanes_in before) (words_in before) (event.Ring lane (saved_of registers)) (ltb-true lane (lanes_in before) f.0);
     }
 
-bounding-cell : (before : List Line) (kind : CellKind) (at value : ℕ) → IsBounded before → has_none before ≡ false → is_cell (kind_of kind) (place_of kind at) value ≡ true
+bounding-cell : (before : List Line) (kind : CellKind) (at value : ℕ) → IsBounded before → has_none before ≡ false → may_hold (kind_of kind) (place_of kind at) value ≡ true
     → IsBounding before (Cell kind at value)
 bounding-cell before kind at value b some inside = record {
   some = some;

@@ -1,7 +1,7 @@
 -- How a text is read in one pass: what is kept of the lines so far, and what each further line makes of it.
 use Rattle.std.specs.Prelude.{◌≡◌, ℕ, ◌+◌, ◌*◌, ◌≤◌, Bool, true, false, if◌then◌else◌, ◌&&◌, not, nat_lt, nat_le, List, [], ◌∷◌, ◌++◌, length, count_by}
 use Rattle.std.specs.List.{flat_map, list_all}
-use Rattle.mm_base.specs.Cells.{is_cell}
+use Rattle.mm_base.specs.Cells.{may_hold}
 use Rattle.mm_base.specs.declared.handler.HandlerBody.TheVariants.{Stub}
 use Rattle.mm_base.specs.declared.text.TextKind.{TextKind}
 use Rattle.mm_base.specs.declared.text.TextKind.TheVariants.{Words, Number}
@@ -59,7 +59,7 @@ are_registers registers = list_all (λ named. nat_lt named.register 19) register
 -- whether the numbers of a line are in range, by what is kept of the lines in front of it
 abbrev pub accepts : ScriptBuilder → Line → Bool
 accepts builder (Lanes lanes words) = nat_le 1 lanes && nat_le lanes 16 && nat_le 3 words && nat_le words 512
-accepts builder (Cell kind at value) = is_cell (kind_of kind) (place_of kind at) value
+accepts builder (Cell kind at value) = may_hold (kind_of kind) (place_of kind at) value
 accepts builder (Handler guid status) = nat_lt (length builder.handlers) 64
 accepts builder (Poke lane word value) = nat_lt lane builder.lanes && nat_lt word (builder.words + 2)
 accepts builder (Fill lane bytes) = nat_lt lane builder.lanes && nat_le 1 (length bytes) && nat_le (length bytes) (8 * builder.words)

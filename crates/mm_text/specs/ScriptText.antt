@@ -1,7 +1,7 @@
 -- The text of a script: which lines it says, and what these make happen.
 use Rattle.std.specs.Prelude.{◌≡◌, ◌≢◌, ℕ, ◌+◌, ◌*◌, Bool, true, false, if◌then◌else◌, ◌==◌, ◌&&◌, not, nat_lt, nat_le, List, [], ◌∷◌, ◌++◌, length, map, filter, take, count_by, Some, slice_get}
 use Rattle.std.specs.List.{flat_map, list_all, range_with_len, slice_split}
-use Rattle.mm_base.specs.Cells.{is_cell}
+use Rattle.mm_base.specs.Cells.{may_hold}
 use Rattle.mm_base.specs.Numbers.{words_of_bytes}
 use Rattle.mm_base.specs.declared.access.Kind.{Kind}
 use Rattle.mm_base.specs.declared.access.Kind.TheVariants.{Memory, Io, Msr}
@@ -156,7 +156,7 @@ are_distinct (named ∷ others) = list_all (λ other. not (other.register == nam
 -- lane has; saved registers 0 to 18, none named twice; at most 8,192 rings; 1 to 2,048 steps.
 abbrev pub is_in_range : List Line → Line → Bool
 is_in_range before (Lanes lanes words) = nat_le 1 lanes && nat_le lanes 16 && nat_le 3 words && nat_le words 512
-is_in_range before (Cell kind at value) = is_cell (kind_of kind) (place_of kind at) value
+is_in_range before (Cell kind at value) = may_hold (kind_of kind) (place_of kind at) value
 is_in_range before (Handler guid status) = nat_lt (count_by (λ line. is_handler (keyword_of line)) before) 64
 is_in_range before (Poke lane word value) = nat_lt lane (lanes_in before) && nat_lt word (words_in before + 2)
 is_in_range before (Fill lane bytes) = nat_lt lane (lanes_in before) && nat_le 1 (length bytes) && nat_le (length bytes) (8 * words_in before)

@@ -1,6 +1,6 @@
 //! The script of a text as it grows, line by line.
 ghost use Rattle.std.specs.Prelude.{◌≡◌, ◌+◌, ◌*◌, ◌^◌, ◌<◌, ◌≤◌, true, nat_lt, [], ◌∷◌, ◌++◌, length, OnOk};
-ghost use Rattle.mm_base.specs.Cells.{is_cell as is_a_cell};
+ghost use Rattle.mm_base.specs.Cells.{may_hold};
 ghost use Rattle.mm_base.specs.Numbers.{words_of_bytes};
 ghost use Rattle.mm_text.specs.ScriptText.{pokes, kind_of, place_of};
 ghost use Rattle.mm_text.specs.ScriptReader.{IsSmall, StandsFor, accepts, behind, built, happened, is_empty as has_no_line, stands_in};
@@ -260,7 +260,7 @@ fn put_words(events: &mut List<Event>, lane: u32, bytes: &[u8]) -> Result<(), No
 
 /// Whether the platform has the cell of a `cell` line, and it may hold this value.
 fn may_hold(kind: CellKind, at: u64, value: u64) -> bool
-    ensures { result ≡ is_a_cell (kind_of kind) (place_of kind at) value }
+    ensures { result ≡ may_hold (kind_of kind) (place_of kind at) value }
 {
     match kind {
         CellKind::Io => is_cell(Kind::Io, at, value),

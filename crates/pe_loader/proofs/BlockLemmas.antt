@@ -3,7 +3,7 @@ use Rattle.std.proofs.Common.{◌≡◌, ℕ, suc, ◌+◌, ◌-◌, ◌*◌, �
 use Rattle.std.specs.List.{list_all}
 use Rattle.std.proofs.lemmas.Bool.{and_left, and_from, and_parts, le-leb, lt-leb, leb-true, eq-eqb, ne_eqb}
 use Rattle.std.proofs.lemmas.Bool.Decides.{nat_tests}
-use Rattle.mm_base.specs.Numbers.{number_at}
+use Rattle.mm_base.specs.Numbers.{number_in}
 use Rattle.mm_base.specs.declared.range.Range.{Range}
 use Rattle.pe_loader.specs.Headers.{image_size, relocs_of}
 use Rattle.pe_loader.specs.Forms.{plain_form}
@@ -15,15 +15,15 @@ use Rattle.pe_loader.specs.declared.relocations.Head.{Head}
 
 -- the next of the entries that are left
 pub fixups_from-more : (form : List ℕ) (page at n k : ℕ) → k < n
-    → fixups_from form page (at + 2 * k) (n - k) ≡ fixup_of page (number_at form (at + 2 * k) 2) ∷ fixups_from form page (at + 2 * (k + 1)) (n - (k + 1))
+    → fixups_from form page (at + 2 * k) (n - k) ≡ fixup_of page (number_in form (at + 2 * k) 2) ∷ fixups_from form page (at + 2 * (k + 1)) (n - (k + 1))
 fixups_from-more form page at n k h =
     let left : n - k ≡ suc (n - (k + 1)) = omega arith in
     let next : at + 2 * k + 2 ≡ at + 2 * (k + 1) = omega arith in
     ap (fixups_from form page (at + 2 * k)) left
-    ∙ ap (λ place. fixup_of page (number_at form (at + 2 * k) 2) ∷ fixups_from form page place (n - (k + 1))) next
+    ∙ ap (λ place. fixup_of page (number_in form (at + 2 * k) 2) ∷ fixups_from form page place (n - (k + 1))) next
 
 -- a test of those that are left
-pub all_more : (test : Fixup → Bool) (form : List ℕ) (page at n k word : ℕ) → k < n → word ≡ number_at form (at + 2 * k) 2
+pub all_more : (test : Fixup → Bool) (form : List ℕ) (page at n k word : ℕ) → k < n → word ≡ number_in form (at + 2 * k) 2
     → list_all test (fixups_from form page (at + 2 * k) (n - k)) ≡ (test (fixup_of page word) && list_all test (fixups_from form page (at + 2 * (k + 1)) (n - (k + 1))))
 all_more test form page at n k word h is =
     ap (list_all test) (fixups_from-more form page at n k h)
@@ -36,15 +36,15 @@ pub no_room : (bytes : List ℕ) (at : ℕ) → directory_end bytes < at + 8 →
 unfolding is_block
 no_room bytes at h = and_left _ _ (lt-leb _ _ h)
 
-pub no_size : (bytes : List ℕ) (at size : ℕ) → size ≡ number_at (plain_form bytes) (at + 4) 4 → size ≡ 0 → is_block bytes at ≡ false
+pub no_size : (bytes : List ℕ) (at size : ℕ) → size ≡ number_in (plain_form bytes) (at + 4) 4 → size ≡ 0 → is_block bytes at ≡ false
 unfolding is_block block_at
 no_size bytes at size is none =
-    let zero : eqb (number_at (plain_form bytes) (at + 4) 4) 0 ≡ true = eq-eqb _ _ (sym is ∙ none) in
+    let zero : eqb (number_in (plain_form bytes) (at + 4) 4) 0 ≡ true = eq-eqb _ _ (sym is ∙ none) in
     grind (arith, nat_tests)
 
 -- and there is one else, which begins with its head
-pub is_head : (bytes : List ℕ) (at page size : ℕ) → at + 8 ≤ directory_end bytes → page ≡ number_at (plain_form bytes) at 4
-    → size ≡ number_at (plain_form bytes) (at + 4) 4 → (size ≡ 0 → ⊥) → IsHead bytes at (record { page = page; size = size })
+pub is_head : (bytes : List ℕ) (at page size : ℕ) → at + 8 ≤ directory_end bytes → page ≡ number_in (plain_form bytes) at 4
+    → size ≡ number_in (plain_form bytes) (at + 4) 4 → (size ≡ 0 → ⊥) → IsHead bytes at (record { page = page; size = size })
 unfolding is_block block_at
 is_head bytes at page size room p s some = record {
   there = and_from _ _ (le-leb _ _ room) (ap not (ne_eqb _ _ (λ e. some (s ∙ e))));
@@ -67,7 +67,7 @@ passes_by_head bytes at head is =
     let by : ℕ → ℕ → Bool = λ page size.
     (leb 8 size && eqb (size % 2) 0 && leb (at + size) (directory_end bytes))
     && list_all (fixup_passes (image_size bytes) (relocs_of bytes)) (fixups_from (plain_form bytes) page (at + 8) ((size - 8) / 2)) in
-    ap (λ page. by page (number_at (plain_form bytes) (at + 4) 4)) (sym is.page) ∙ ap (by head.page) (sym is.size)
+    ap (λ page. by page (number_in (plain_form bytes) (at + 4) 4)) (sym is.page) ∙ ap (by head.page) (sym is.size)
 
 -- a block that passes has a size, and leads past no end
 pub size_within : (bytes : List ℕ) (at : ℕ) → block_passes bytes at ≡ true

@@ -4,8 +4,8 @@ use Rattle.std.specs.Option.{option_map_or}
 use Rattle.std.proofs.lemmas.Bool.{cond-true, cond-false, lt-ltb, le-ltb, false_from_ne_true, cases_order}
 use Rattle.std.proofs.lemmas.Bool.Decides.{nat_tests}
 use Rattle.std.proofs.lemmas.List.FromFn.{length-map-range_with_len, get_or-map-range_with_len}
-use Rattle.mm_base.specs.Numbers.{number_at}
-use Rattle.mm_base.specs.Range.{overlaps}
+use Rattle.mm_base.specs.Numbers.{number_in}
+use Rattle.mm_base.specs.Range.{share_a_unit}
 use Rattle.mm_base.specs.declared.image.Part.{Part}
 use Rattle.pe_loader.specs.Headers.{part_count, headers_size, image_size}
 use Rattle.pe_loader.specs.Sections.{part_at, parts, range_of}
@@ -31,7 +31,7 @@ plain_of_headers bytes place h = cond-true _ _ _ (lt-ltb place (headers_size byt
 
 -- two sections that both copy a byte to a place overlap
 copy_apart : (one other : Part) (place : ℕ) → one.copied ≤ one.length → other.copied ≤ other.length
-    → overlaps (range_of one) (range_of other) ≡ false → copies_to place other ≡ true → copies_to place one ≡ true → ⊥
+    → share_a_unit (range_of one) (range_of other) ≡ false → copies_to place other ≡ true → copies_to place one ≡ true → ⊥
 copy_apart one other place small little apart copies both = grind (arith, nat_tests)
 
 -- the byte that a section copies there
@@ -132,7 +132,7 @@ get_or-plain_form bytes place h = get_or-map-range_with_len (plain_byte bytes) 0
 
 -- two bytes are a number of two
 pub plain_word : (bytes : List ℕ) (at low high : ℕ) → at + 2 ≤ image_size bytes → low ≡ plain_byte bytes at → high ≡ plain_byte bytes (at + 1)
-    → low + 256 * high ≡ number_at (plain_form bytes) at 2
+    → low + 256 * high ≡ number_in (plain_form bytes) at 2
 plain_word bytes at low high h l g =
     let long = length-plain_form bytes in
     let both = number_at_2 (plain_form bytes) at (omega arith) in
@@ -141,8 +141,8 @@ plain_word bytes at low high h l g =
     omega arith
 
 -- and two of two one of four
-pub plain_double : (bytes : List ℕ) (at low high : ℕ) → at + 4 ≤ image_size bytes → low ≡ number_at (plain_form bytes) at 2
-    → high ≡ number_at (plain_form bytes) (at + 2) 2 → low + 65536 * high ≡ number_at (plain_form bytes) at 4
+pub plain_double : (bytes : List ℕ) (at low high : ℕ) → at + 4 ≤ image_size bytes → low ≡ number_in (plain_form bytes) at 2
+    → high ≡ number_in (plain_form bytes) (at + 2) 2 → low + 65536 * high ≡ number_in (plain_form bytes) at 4
 plain_double bytes at low high h l g =
     let long = length-plain_form bytes in
     let both = number_at_4 (plain_form bytes) at (omega arith) in

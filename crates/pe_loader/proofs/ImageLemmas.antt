@@ -7,7 +7,7 @@ use Rattle.mm_base.specs.declared.image.PeFault.{PeFault}
 use Rattle.mm_base.specs.declared.image.PeKind.{PeKind}
 use Rattle.mm_base.specs.declared.image.PeKind.TheVariants.{Reloc}
 use Rattle.pe_loader.specs.Headers.{header_checks, optional_at, part_count, headers_size, image_size, table_at, relocs_of, FailsFirst}
-use Rattle.mm_base.specs.Range.{overlaps, Has}
+use Rattle.mm_base.specs.Range.{share_a_unit, Has}
 use Rattle.mm_base.proofs.RangeLemmas.{overlap_is_a_unit}
 use Rattle.pe_loader.specs.Sections.{part_at, range_of, section_checks, entry_check, checks}
 use Rattle.pe_loader.specs.Fixups.{Block, block_at, is_block, block_passes, IsBlockAt, Leads, fixups_in, directory_end, directory_fits, AreFixups}
@@ -267,7 +267,7 @@ sections_lie_apart bytes image fixups j k place is earlier h one other =
     let laid = laid_out_of bytes is.passes in
     let parts = parts_of bytes image is.says in
     let apart = laid.apart j k earlier (omega arith) in
-    let both : overlaps (range_of (part_at bytes j)) (range_of (part_at bytes k)) ≡ true =
+    let both : share_a_unit (range_of (part_at bytes j)) (range_of (part_at bytes k)) ≡ true =
     (overlap_is_a_unit (range_of (part_at bytes j)) (range_of (part_at bytes k))).1 (place, (one, other)) in
     let wrong : true ≡ false = sym both ∙ apart in
     cc

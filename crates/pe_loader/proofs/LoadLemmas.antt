@@ -6,7 +6,7 @@ use Rattle.std.proofs.lemmas.Bool.Decides.{nat_tests}
 use Rattle.std.proofs.lemmas.List.{length-take-le, length-append, length-drop, get_or_append_left, get_or-append_right, get_or-take, get_or-drop}
 use Rattle.std.proofs.lemmas.List.FromFn.{fill_by_all}
 use Rattle.std.proofs.lemmas.List.Sums.{fold-append}
-use Rattle.mm_base.specs.Numbers.{number_at}
+use Rattle.mm_base.specs.Numbers.{number_in}
 use Rattle.mm_base.specs.declared.image.Part.{Part}
 use Rattle.mm_base.specs.declared.range.Range.{Range}
 use Rattle.pe_loader.specs.Headers.{part_count, headers_size, image_size, relocs_of}
@@ -142,11 +142,11 @@ pub stays_within : (size : ℕ) (directory : Range) (fixup : Fixup) → fixup_pa
 stays_within size directory fixup passes = stays_of size directory fixup.kind fixup.at passes
 
 -- the next of those that are left
-pub apply_more : (by : ℕ) (form out new : List ℕ) (page at n k word : ℕ) (fixup : Fixup) → k < n → word ≡ number_at form (at + 2 * k) 2 → fixup ≡ fixup_of page word
+pub apply_more : (by : ℕ) (form out new : List ℕ) (page at n k word : ℕ) (fixup : Fixup) → k < n → word ≡ number_in form (at + 2 * k) 2 → fixup ≡ fixup_of page word
     → new ≡ fixed by out fixup
     → fold (fixed by) new (fixups_from form page (at + 2 * (k + 1)) (n - (k + 1))) ≡ fold (fixed by) out (fixups_from form page (at + 2 * k) (n - k))
 apply_more by form out new page at n k word fixup h is there now =
-    let same : fixup ≡ fixup_of page (number_at form (at + 2 * k) 2) = there ∙ ap (fixup_of page) is in
+    let same : fixup ≡ fixup_of page (number_in form (at + 2 * k) 2) = there ∙ ap (fixup_of page) is in
     ap (λ (xs : List ℕ). fold (fixed by) xs (fixups_from form page (at + 2 * (k + 1)) (n - (k + 1)))) (now ∙ ap (fixed by out) same)
     ∙ sym (ap (fold (fixed by) out) (fixups_from-more form page at n k h))
 
@@ -223,7 +223,7 @@ pub fixups_by_head : (bytes : List ℕ) (at : ℕ) (head : Head) → IsHead byte
     → (block_at bytes at).fixups ≡ fixups_from (plain_form bytes) head.page (at + 8) ((head.size - 8) / 2)
 unfolding block_at
 fixups_by_head bytes at head is =
-    ap (λ page. fixups_from (plain_form bytes) page (at + 8) ((number_at (plain_form bytes) (at + 4) 4 - 8) / 2)) (sym is.page)
+    ap (λ page. fixups_from (plain_form bytes) page (at + 8) ((number_in (plain_form bytes) (at + 4) 4 - 8) / 2)) (sym is.page)
     ∙ ap (λ size. fixups_from (plain_form bytes) head.page (at + 8) ((size - 8) / 2)) (sym is.size)
 
 pub fixups_pass : (bytes : List ℕ) (at : ℕ) → block_passes bytes at ≡ true

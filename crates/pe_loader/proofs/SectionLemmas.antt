@@ -5,7 +5,7 @@ use Rattle.std.proofs.lemmas.Bool.Decides.{nat_tests}
 use Rattle.std.proofs.lemmas.List.FromFn.{length-map-range_with_len, get_or-map-range_with_len, take-map-range_with_len}
 use Rattle.mm_base.proofs.CheckLemmas.{AllPass, all_pass, none_fails}
 use Rattle.mm_base.specs.Checks.{Check, first_failing}
-use Rattle.mm_base.specs.Range.{overlaps}
+use Rattle.mm_base.specs.Range.{share_a_unit}
 use Rattle.mm_base.specs.declared.image.Part.{Part}
 use Rattle.mm_base.specs.declared.range.Range.{Range}
 use Rattle.mm_base.specs.declared.image.PeFault.{PeFault}
@@ -17,33 +17,33 @@ use Rattle.pe_loader.specs.Layout.{HasHeaders, LiesIn, IsLaidOut, AreInOrder}
 use Rattle.pe_loader.proofs.HeaderLemmas.{passed_check, fails}
 use Rattle.pe_loader.proofs.RangeLemmas.{all_pass_from, passes_each}
 
--- a section that overlaps one of the first few
-pub overlaps_later : (bytes : List ℕ) (part : Part) (n k : ℕ) → k < n → overlaps (range_of (part_at bytes k)) (range_of part) ≡ true
+-- a section that share_a_unit one of the first few
+pub overlaps_later : (bytes : List ℕ) (part : Part) (n k : ℕ) → k < n → share_a_unit (range_of (part_at bytes k)) (range_of part) ≡ true
     → overlaps_first bytes part n ≡ true
 overlaps_later bytes part zero k h is = absurd (omega arith)
 overlaps_later bytes part (suc n) k h is =
     elim (cases_eq k n) [
-      | inl e ↦ let P : ℕ → Type 0 = λ j. overlaps (range_of (part_at bytes j)) (range_of part) ≡ true in or_right _ _ (subst P e is)
+      | inl e ↦ let P : ℕ → Type 0 = λ j. share_a_unit (range_of (part_at bytes j)) (range_of part) ≡ true in or_right _ _ (subst P e is)
       | inr ne ↦ or_left _ _ (overlaps_later bytes part n k (omega arith) is)
     ]
 
--- and one that overlaps none of them
+-- and one that share_a_unit none of them
 pub apart_from : (bytes : List ℕ) (part : Part) (n k : ℕ) → k < n → overlaps_first bytes part n ≡ false
-    → overlaps (range_of (part_at bytes k)) (range_of part) ≡ false
+    → share_a_unit (range_of (part_at bytes k)) (range_of part) ≡ false
 apart_from bytes part zero k h none = absurd (omega arith)
 apart_from bytes part (suc n) k h none =
     let both = or_parts _ _ none in
     elim (cases_eq k n) [
-      | inl e ↦ let P : ℕ → Type 0 = λ j. overlaps (range_of (part_at bytes j)) (range_of part) ≡ false in subst P (sym e) both.1
+      | inl e ↦ let P : ℕ → Type 0 = λ j. share_a_unit (range_of (part_at bytes j)) (range_of part) ≡ false in subst P (sym e) both.1
       | inr ne ↦ apart_from bytes part n k (omega arith) both.0
     ]
 
 -- one that begins where all of them have ended
-begins_behind : (one other : Part) → one.at + one.length ≤ other.at → overlaps (range_of one) (range_of other) ≡ false
+begins_behind : (one other : Part) → one.at + one.length ≤ other.at → share_a_unit (range_of one) (range_of other) ≡ false
 begins_behind one other h = grind (arith, nat_tests)
 
 -- an empty one
-empty_apart : (one other : Part) → other.length ≡ 0 → overlaps (range_of one) (range_of other) ≡ false
+empty_apart : (one other : Part) → other.length ≡ 0 → share_a_unit (range_of one) (range_of other) ≡ false
 empty_apart one other none = grind (arith, nat_tests)
 
 pub empty_shares_none : (bytes : List ℕ) (part : Part) (n : ℕ) → part.length ≡ 0 → overlaps_first bytes part n ≡ false
@@ -114,12 +114,12 @@ pub entry_in : (bytes : List ℕ) (k : ℕ) → HasHeaders bytes → k < part_co
 entry_in bytes k headers h = omega (arith, headers.table, headers.in_file)
 
 -- ranges that are the same overlap the same
-pub same_overlap : (a b x y : Range) (is : Bool) → a ≡ x → b ≡ y → is ≡ overlaps a b → overlaps x y ≡ is
-same_overlap a b x y is e f told = ap (λ (r : Range). overlaps r y) (sym e) ∙ ap (overlaps a) (sym f) ∙ sym told
+pub same_overlap : (a b x y : Range) (is : Bool) → a ≡ x → b ≡ y → is ≡ share_a_unit a b → share_a_unit x y ≡ is
+same_overlap a b x y is e f told = ap (λ (r : Range). share_a_unit r y) (sym e) ∙ ap (share_a_unit a) (sym f) ∙ sym told
 
 -- one more section that isn't overlapped
 pub none_more : (bytes : List ℕ) (part : Part) (n : ℕ) → overlaps_first bytes part n ≡ false
-    → overlaps (range_of (part_at bytes n)) (range_of part) ≡ false → overlaps_first bytes part (n + 1) ≡ false
+    → share_a_unit (range_of (part_at bytes n)) (range_of part) ≡ false → overlaps_first bytes part (n + 1) ≡ false
 none_more bytes part n none here =
     let P : ℕ → Type 0 = λ k. overlaps_first bytes part k ≡ false in
     subst P (sym (add-one n)) (or_from _ _ none here)

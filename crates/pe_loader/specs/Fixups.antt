@@ -2,8 +2,8 @@
 -- page, its own size, and an entry of two bytes for each fixup. They are read from the plain form.
 use Rattle.std.specs.Prelude.{◌≡◌, ℕ, zero, suc, ◌+◌, ◌-◌, ◌/◌, ◌%◌, ◌≤◌, Bool, true, false, if◌then◌else◌, ◌==◌, ◌&&◌, not, nat_le, List, [], ◌∷◌}
 use Rattle.std.specs.List.{list_all, flat_map}
-use Rattle.mm_base.specs.Numbers.{number_at}
-use Rattle.mm_base.specs.Range.{overlaps}
+use Rattle.mm_base.specs.Numbers.{number_in}
+use Rattle.mm_base.specs.Range.{share_a_unit}
 use Rattle.mm_base.specs.declared.range.Range.{Range}
 use Rattle.pe_loader.specs.Headers.{image_size, relocs_of}
 use Rattle.pe_loader.specs.Forms.{plain_form}
@@ -49,13 +49,13 @@ fixup_passes size directory fixup =
     elim (fixup.kind) [
       | Absolute ↦ true
       | Unknown ↦ false
-      | _ ↦ nat_le (changed.base + changed.length) size && not (overlaps changed directory)
+      | _ ↦ nat_le (changed.base + changed.length) size && not (share_a_unit changed directory)
     ]
 
 -- so many entries one behind another, of a block for this page
 abbrev pub fixups_from : List ℕ → ℕ → ℕ → ℕ → List Fixup
 fixups_from form page at zero = []
-fixups_from form page at (suc n) = fixup_of page (number_at form at 2) ∷ fixups_from form page (at + 2) n
+fixups_from form page at (suc n) = fixup_of page (number_in form at 2) ∷ fixups_from form page (at + 2) n
 
 -- a block: its page, its size, and what its entries say
 pub record Block : Type 0 where
@@ -66,8 +66,8 @@ pub record Block : Type 0 where
 -- the block at a place
 unfoldable pub block_at : List ℕ → ℕ → Block
 block_at bytes at =
-    let page = number_at (plain_form bytes) at 4 in
-    let size = number_at (plain_form bytes) (at + 4) 4 in
+    let page = number_in (plain_form bytes) at 4 in
+    let size = number_in (plain_form bytes) (at + 4) 4 in
     record { page = page; size = size; fixups = fixups_from (plain_form bytes) page (at + 8) ((size - 8) / 2) }
 
 -- where the directory ends

@@ -4,7 +4,7 @@
 use Rattle.std.specs.Prelude.{◌≡◌, ℕ, ◌+◌, ◌*◌, Bool, if◌then◌else◌, ◌==◌, ◌&&◌, ◌||◌, not, nat_le, nat_lt, List, [], ◌∷◌, length, take, drop, Some, codes}
 use Rattle.std.specs.Str.{bytes_eq}
 use Rattle.mm_base.specs.Checks.{Check, first_failing}
-use Rattle.mm_base.specs.Numbers.{number_at}
+use Rattle.mm_base.specs.Numbers.{number_in}
 use Rattle.mm_base.specs.declared.image.PeFault.{PeFault}
 use Rattle.mm_base.specs.declared.image.PeKind.{PeKind}
 use Rattle.mm_base.specs.declared.image.PeKind.TheVariants.{Short, Mz, Lfanew, Signature, Machine, Magic, Optional, Subsystem, Size, Headers}
@@ -12,42 +12,42 @@ use Rattle.mm_base.specs.declared.range.Range.{Range}
 
 -- where the PE signature stands, and the optional header behind it and the file header
 abbrev pub pe_at : List ℕ → ℕ
-pe_at bytes = number_at bytes 0x3c 4
+pe_at bytes = number_in bytes 0x3c 4
 
 abbrev pub optional_at : List ℕ → ℕ
 optional_at bytes = pe_at bytes + 24
 
 -- fields of the file header: Machine, NumberOfSections, SizeOfOptionalHeader
 abbrev pub machine_of : List ℕ → ℕ
-machine_of bytes = number_at bytes (pe_at bytes + 4) 2
+machine_of bytes = number_in bytes (pe_at bytes + 4) 2
 
 abbrev pub part_count : List ℕ → ℕ
-part_count bytes = number_at bytes (pe_at bytes + 6) 2
+part_count bytes = number_in bytes (pe_at bytes + 6) 2
 
 abbrev pub optional_size : List ℕ → ℕ
-optional_size bytes = number_at bytes (pe_at bytes + 20) 2
+optional_size bytes = number_in bytes (pe_at bytes + 20) 2
 
 -- fields of the optional header: Magic, AddressOfEntryPoint, ImageBase, SizeOfImage, SizeOfHeaders, Subsystem, NumberOfRvaAndSizes
 abbrev pub magic_of : List ℕ → ℕ
-magic_of bytes = number_at bytes (optional_at bytes) 2
+magic_of bytes = number_in bytes (optional_at bytes) 2
 
 abbrev pub entry_of : List ℕ → ℕ
-entry_of bytes = number_at bytes (optional_at bytes + 16) 4
+entry_of bytes = number_in bytes (optional_at bytes + 16) 4
 
 abbrev pub base_of : List ℕ → ℕ
-base_of bytes = number_at bytes (optional_at bytes + 24) 8
+base_of bytes = number_in bytes (optional_at bytes + 24) 8
 
 abbrev pub image_size : List ℕ → ℕ
-image_size bytes = number_at bytes (optional_at bytes + 56) 4
+image_size bytes = number_in bytes (optional_at bytes + 56) 4
 
 abbrev pub headers_size : List ℕ → ℕ
-headers_size bytes = number_at bytes (optional_at bytes + 60) 4
+headers_size bytes = number_in bytes (optional_at bytes + 60) 4
 
 abbrev pub subsystem_of : List ℕ → ℕ
-subsystem_of bytes = number_at bytes (optional_at bytes + 68) 2
+subsystem_of bytes = number_in bytes (optional_at bytes + 68) 2
 
 abbrev pub directory_count : List ℕ → ℕ
-directory_count bytes = number_at bytes (optional_at bytes + 108) 4
+directory_count bytes = number_in bytes (optional_at bytes + 108) 4
 
 -- where the section table stands, and its k-th entry of 40 bytes
 abbrev pub table_at : List ℕ → ℕ
@@ -63,9 +63,9 @@ table_end bytes = section_at bytes (part_count bytes)
 -- the relocation directory, which is directory 5: none where there are no six directories, or where its size is 0
 unfoldable pub relocs_of : List ℕ → Range
 relocs_of bytes =
-    let size = number_at bytes (optional_at bytes + 156) 4 in
+    let size = number_in bytes (optional_at bytes + 156) 4 in
     if nat_lt 5 (directory_count bytes) && not (size == 0)
-    then record { base = number_at bytes (optional_at bytes + 152) 4; length = size }
+    then record { base = number_in bytes (optional_at bytes + 152) 4; length = size }
     else record { base = 0; length = 0 }
 
 -- whether the optional header has room for its directories, and the section table behind it lies in the file

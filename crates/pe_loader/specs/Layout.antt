@@ -1,6 +1,6 @@
 -- What headers and sections that pass their checks say, as plain facts.
 use Rattle.std.specs.Prelude.{◌≡◌, ◌⊎◌, ℕ, ◌+◌, ◌*◌, ◌≤◌, ◌<◌, false, List, length}
-use Rattle.mm_base.specs.Range.{overlaps}
+use Rattle.mm_base.specs.Range.{share_a_unit}
 use Rattle.mm_base.specs.declared.image.Part.{Part}
 use Rattle.pe_loader.specs.Headers.{optional_at, part_count, optional_size, image_size, headers_size, directory_count, table_end}
 use Rattle.pe_loader.specs.Sections.{part_at, range_of}
@@ -29,7 +29,7 @@ pub record LiesIn (bytes : List ℕ) (part : Part) : Type 0 where
 pub record IsLaidOut (bytes : List ℕ) : Type 0 where
   pub headers : HasHeaders bytes
   pub each : (k : ℕ) → k < part_count bytes → LiesIn bytes (part_at bytes k)
-  pub apart : (j k : ℕ) → j < k → k < part_count bytes → overlaps (range_of (part_at bytes j)) (range_of (part_at bytes k)) ≡ false
+  pub apart : (j k : ℕ) → j < k → k < part_count bytes → share_a_unit (range_of (part_at bytes j)) (range_of (part_at bytes k)) ≡ false
 
 -- The first few sections end at a place, or before it.
 abbrev pub EndBefore : List ℕ → ℕ → ℕ → Type 0

@@ -1,7 +1,7 @@
 -- The loaded form of an image: its bytes in memory at some address, with its fixups applied.
 use Rattle.std.specs.Prelude.{ℕ, ◌+◌, ◌-◌, ◌*◌, ◌/◌, ◌%◌, ◌^◌, List, ◌++◌, take, drop, length, fold}
 use Rattle.std.specs.Int.{Width, w16, w32, w64, byte_len, to_le_bytes}
-use Rattle.mm_base.specs.Numbers.{number_at}
+use Rattle.mm_base.specs.Numbers.{number_in}
 use Rattle.mm_base.specs.declared.image.Image.{Image}
 use Rattle.pe_loader.specs.Forms.{plain_form}
 use Rattle.pe_loader.specs.declared.fixup.Fixup.{Fixup}
@@ -17,7 +17,7 @@ put form at bytes = take at form ++ bytes ++ drop (at + length bytes) form
 
 -- a form where the number of this width at a place is raised; it wraps
 abbrev pub raised : Width → List ℕ → ℕ → ℕ → List ℕ
-raised width form at by = put form at (to_le_bytes width ((number_at form at (byte_len width) + by) % 2 ^ (8 * byte_len width)))
+raised width form at by = put form at (to_le_bytes width ((number_in form at (byte_len width) + by) % 2 ^ (8 * byte_len width)))
 
 -- A form with one fixup applied, for a difference: IMAGE_REL_BASED_HIGH adds its bits 16 to 31 to 16 bits, IMAGE_REL_BASED_LOW its bits 0
 -- to 15, IMAGE_REL_BASED_HIGHLOW adds it to 32 bits, and IMAGE_REL_BASED_DIR64 to 64; others do nothing.

@@ -2,8 +2,8 @@
 use Rattle.std.specs.Prelude.{ℕ, zero, suc, ◌+◌, ◌%◌, Bool, false, if◌then◌else◌, ◌==◌, ◌&&◌, ◌||◌, not, nat_le, nat_lt, min, List, [], ◌∷◌, ◌++◌, map, length}
 use Rattle.std.specs.List.{range_with_len, list_any}
 use Rattle.mm_base.specs.Checks.{Check}
-use Rattle.mm_base.specs.Numbers.{number_at, has_bit}
-use Rattle.mm_base.specs.Range.{overlaps}
+use Rattle.mm_base.specs.Numbers.{number_in, has_bit}
+use Rattle.mm_base.specs.Range.{share_a_unit}
 use Rattle.mm_base.specs.declared.image.Part.{Part}
 use Rattle.mm_base.specs.declared.image.PeKind.{PeKind}
 use Rattle.mm_base.specs.declared.image.PeKind.TheVariants.{Section, Entry}
@@ -18,17 +18,17 @@ rights_of bits =
 -- the length of a section: its virtual size, or its raw size where that is 0
 abbrev pub part_length : List ℕ → ℕ → ℕ
 part_length bytes k =
-    let virtual = number_at bytes (section_at bytes k + 8) 4 in
-    if virtual == 0 then number_at bytes (section_at bytes k + 16) 4 else virtual
+    let virtual = number_in bytes (section_at bytes k + 8) 4 in
+    if virtual == 0 then number_in bytes (section_at bytes k + 16) 4 else virtual
 
 -- the k-th section: as many bytes are copied as it has in the file, and no more than its length
 unfoldable pub part_at : List ℕ → ℕ → Part
 part_at bytes k = record {
-  at = number_at bytes (section_at bytes k + 12) 4;
+  at = number_in bytes (section_at bytes k + 12) 4;
   length = part_length bytes k;
-  raw = number_at bytes (section_at bytes k + 20) 4;
-  copied = min (part_length bytes k) (number_at bytes (section_at bytes k + 16) 4);
-  rights = rights_of (number_at bytes (section_at bytes k + 36) 4);
+  raw = number_in bytes (section_at bytes k + 20) 4;
+  copied = min (part_length bytes k) (number_in bytes (section_at bytes k + 16) 4);
+  rights = rights_of (number_in bytes (section_at bytes k + 36) 4);
 }
 
 -- the sections, in the order of their table
@@ -42,7 +42,7 @@ range_of part = record { base = part.at; length = part.length }
 -- whether a section shares a byte with one of the first n
 abbrev pub overlaps_first : List ℕ → Part → ℕ → Bool
 overlaps_first bytes part zero = false
-overlaps_first bytes part (suc n) = overlaps_first bytes part n || overlaps (range_of (part_at bytes n)) (range_of part)
+overlaps_first bytes part (suc n) = overlaps_first bytes part n || share_a_unit (range_of (part_at bytes n)) (range_of part)
 
 -- whether a section lies behind the headers and in the image, and what it copies lies in the file
 abbrev pub lies_in : List ℕ → Part → Bool
@@ -51,7 +51,7 @@ lies_in bytes part =
     && nat_le (part.at + part.length) (image_size bytes)
     && ((part.copied == 0) || nat_le (part.raw + part.copied) (length bytes))
 
--- the check of the k-th section, which names its entry of the table: it lies where it may, and overlaps no earlier one
+-- the check of the k-th section, which names its entry of the table: it lies where it may, and share_a_unit no earlier one
 abbrev pub section_check : List ℕ → ℕ → Check PeKind
 section_check bytes k = record {
   kind = Section;

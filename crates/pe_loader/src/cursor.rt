@@ -1,6 +1,6 @@
 //! Reading the plain form of an image from its front on.
 ghost use Rattle.std.specs.Prelude.{◌≡◌, ◌↔◌, ◌+◌, ◌*◌, ◌≤◌, ◌<◌, true, false, IsTrue};
-ghost use Rattle.mm_base.specs.Numbers.{number_at as number_there};
+ghost use Rattle.mm_base.specs.Numbers.{number_in};
 ghost use Rattle.pe_loader.specs.Headers.{part_count as part_count_told, image_size as image_size_told, headers_size as headers_size_told};
 ghost use Rattle.pe_loader.specs.Sections.{part_at as part_told};
 ghost use Rattle.pe_loader.specs.Forms.{plain_byte, plain_form};
@@ -181,7 +181,7 @@ impl Cursor {
         requires laid_out { IsLaidOut bytes.now }
         requires ready { IsReady bytes.now self.old at }
         requires within { at + 2 ≤ image_size_told bytes.now }
-        ensures number { result ≡ number_there (plain_form bytes.now) at 2 }
+        ensures number { result ≡ number_in (plain_form bytes.now) at 2 }
         ensures ready { IsReady bytes.now self.new (at + 2) }
     {
         let low = self.byte(bytes, at);
@@ -194,7 +194,7 @@ impl Cursor {
         requires laid_out { IsLaidOut bytes.now }
         requires ready { IsReady bytes.now self.old at }
         requires within { at + 4 ≤ image_size_told bytes.now }
-        ensures number { result ≡ number_there (plain_form bytes.now) at 4 }
+        ensures number { result ≡ number_in (plain_form bytes.now) at 4 }
         ensures ready { IsReady bytes.now self.new (at + 4) }
     {
         let low = self.word(bytes, at);

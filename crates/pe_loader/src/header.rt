@@ -2,7 +2,7 @@
 ghost use Rattle.std.specs.Prelude.{◌≡◌, ◌+◌, ◌*◌, ◌≤◌, ◌<◌, ◌&&◌, ◌||◌, ◌==◌, [], ◌∷◌, nat_le, nat_lt, length, take, drop, codes, None, OnOk, IfErr};
 ghost use Rattle.std.specs.Str.{bytes_eq};
 ghost use Rattle.mm_base.specs.Checks.{first_failing};
-ghost use Rattle.mm_base.specs.Numbers.{number_at as number_there};
+ghost use Rattle.mm_base.specs.Numbers.{number_in};
 ghost use Rattle.pe_loader.specs.Headers.{pe_at as pe_place, optional_at as optional_place, machine_of as machine_told, part_count as part_count_told, optional_size as optional_size_told, magic_of as magic_told, image_size as image_size_told, headers_size as headers_size_told, subsystem_of as subsystem_told, directory_count as directory_count_told, table_at as table_place, section_at as section_place, table_end as table_end_place, relocs_of as relocs_told, optional_fits as has_optional_fit, headers_fit as has_headers_fit, header_checks, FailsFirst};
 ghost use Rattle.pe_loader.specs.Layout.{HasHeaders};
 
@@ -95,7 +95,7 @@ fn optional_size(bytes: &[u8]) -> u16
 pub(crate) fn field(bytes: &[u8], behind: usize) -> u32
     requires fixed { 64 ≤ length bytes.now }
     requires within { optional_place bytes.now + (behind + 4) ≤ length bytes.now }
-    ensures { result ≡ number_there bytes.now (optional_place bytes.now + behind) 4 }
+    ensures { result ≡ number_in bytes.now (optional_place bytes.now + behind) 4 }
 {
     u32_at(bytes, optional_at(bytes) + behind)
 }

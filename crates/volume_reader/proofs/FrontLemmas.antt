@@ -5,7 +5,7 @@ use Rattle.std.proofs.lemmas.List.{drop-take, take-take, length-take-le, take-ap
 use Rattle.std.proofs.lemmas.Bool.Decides.{nat_tests}
 use Rattle.mm_base.specs.declared.volume.Volume.{Volume}
 use Rattle.mm_base.proofs.CheckLemmas.{all_pass, none_fails}
-use Rattle.mm_base.specs.Numbers.{number_of, number_at, has_bit}
+use Rattle.mm_base.specs.Numbers.{number_of, number_in, has_bit}
 use Rattle.volume_reader.specs.VolumeHeader.{checks, first_failing, header_length, volume_length, ext_header, ext_size, ext_header_fits, file_system, ffs2_guid, ffs3_guid, first_place, up_to_8, erase_polarity}
 use Rattle.volume_reader.specs.FileHeader.{Area}
 use Rattle.volume_reader.specs.Sums.{sum_in_16_bits}
@@ -37,7 +37,7 @@ in_front xs n at k h =
 part : (xs ys : List ℕ) (n at k : ℕ) → Fronts xs ys n → at + k ≤ n → take k (drop at ys) ≡ take k (drop at xs)
 part xs ys n at k fronts h = sym (in_front ys n at k h) ∙ ap (λ zs. take k (drop at zs)) fronts.same ∙ in_front xs n at k h
 
-number : (xs ys : List ℕ) (n at k : ℕ) → Fronts xs ys n → at + k ≤ n → number_at ys at k ≡ number_at xs at k
+number : (xs ys : List ℕ) (n at k : ℕ) → Fronts xs ys n → at + k ≤ n → number_in ys at k ≡ number_in xs at k
 number xs ys n at k fronts h = ap number_of (part xs ys n at k fronts h)
 
 -- ---- what a header tells
@@ -47,7 +47,7 @@ ext_size_same : (bytes other : List ℕ) → first_failing bytes ≡ None → Fr
     → ext_size other ≡ ext_size bytes
 ext_size_same bytes other none fronts fixed there =
     let q = ext_in bytes none there in
-    ap (λ (at : ℕ). number_at other (at + 16) 4) (number bytes other (volume_length bytes) 52 2 fronts (omega arith))
+    ap (λ (at : ℕ). number_in other (at + 16) 4) (number bytes other (volume_length bytes) 52 2 fronts (omega arith))
     ∙ number bytes other (volume_length bytes) (ext_header bytes + 16) 4 fronts (omega (arith, q.room))
 
 ext_same : (bytes other : List ℕ) → first_failing bytes ≡ None → Fronts bytes other (volume_length bytes) → 64 ≤ volume_length bytes → ext_header_fits other ≡ true

@@ -2,7 +2,7 @@
 -- the lowest byte first.
 use Rattle.std.specs.Prelude.{ℕ, ◌+◌, ◌-◌, Bool, if◌then◌else◌, ◌==◌, ◌&&◌, ◌||◌, nat_le, nat_lt, bit_and, bit_xor, List, ◌∷◌, length, take, drop, slice_set}
 use Rattle.mm_base.specs.declared.volume.File.{File}
-use Rattle.mm_base.specs.Numbers.{number_at, has_bit}
+use Rattle.mm_base.specs.Numbers.{number_in, has_bit}
 use Rattle.volume_reader.specs.Sums.{sum_in_8_bits}
 use Rattle.volume_reader.specs.declared.file_state.FileState.{FileState}
 use Rattle.volume_reader.specs.declared.file_state.FileState.TheVariants.{Free, HeaderConstruction, HeaderValid, DataValid, MarkedForUpdate, Deleted, HeaderInvalid}
@@ -28,20 +28,20 @@ state_of bits =
 -- the state of the file at a place: State, inverted where bits are erased to ones, and of it bits 0 to 5
 abbrev pub state_at : Area → ℕ → FileState
 state_at area at =
-    let state = number_at area.bytes (at + 23) 1 in
+    let state = number_in area.bytes (at + 23) 1 in
     state_of (bit_and (if area.erase_polarity then bit_xor state 0xff else state) 0x3f)
 
 -- IntegrityCheck.Checksum.File: the sum of the body, or FFS_FIXED_CHECKSUM
 abbrev pub file_checksum_at : Area → ℕ → ℕ
-file_checksum_at area at = number_at area.bytes (at + 17) 1
+file_checksum_at area at = number_in area.bytes (at + 17) 1
 
 -- Type
 abbrev pub kind_at : Area → ℕ → ℕ
-kind_at area at = number_at area.bytes (at + 18) 1
+kind_at area at = number_in area.bytes (at + 18) 1
 
 -- Attributes
 abbrev pub attributes_at : Area → ℕ → ℕ
-attributes_at area at = number_at area.bytes (at + 19) 1
+attributes_at area at = number_in area.bytes (at + 19) 1
 
 -- whether the file says that it is large: FFS_ATTRIB_LARGE_FILE
 abbrev pub says_large : Area → ℕ → Bool
@@ -57,7 +57,7 @@ header_size area at = if is_large area at then 32 else 24
 
 -- how many bytes the file has with its header: ExtendedSize of a large file, Size of another
 abbrev pub size_at : Area → ℕ → ℕ
-size_at area at = if is_large area at then number_at area.bytes (at + 24) 8 else number_at area.bytes (at + 20) 3
+size_at area at = if is_large area at then number_in area.bytes (at + 24) 8 else number_in area.bytes (at + 20) 3
 
 -- whether so many bytes from a place on lie in the volume
 abbrev pub has_room : Area → ℕ → ℕ → Bool

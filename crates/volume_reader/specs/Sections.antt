@@ -5,7 +5,7 @@ use Rattle.std.specs.List.{slice_get}
 use Rattle.mm_base.specs.declared.volume.File.{File}
 use Rattle.mm_base.specs.declared.volume.Section.{Section}
 use Rattle.mm_base.specs.declared.volume.SectionFault.{SectionFault}
-use Rattle.mm_base.specs.Numbers.{number_at}
+use Rattle.mm_base.specs.Numbers.{number_in}
 
 -- the body of a file
 abbrev pub body_of : List ℕ → File → List ℕ
@@ -13,7 +13,7 @@ body_of bytes file = take file.body (drop file.body_at bytes)
 
 -- whether the section at a place of a body has an EFI_COMMON_SECTION_HEADER2, the longer header: its Size is FFFFFF
 abbrev pub is_extended : List ℕ → ℕ → Bool
-is_extended body at = number_at body at 3 == 0xffffff
+is_extended body at = number_in body at 3 == 0xffffff
 
 -- how many bytes the section's header has
 abbrev pub section_header : List ℕ → ℕ → ℕ
@@ -21,7 +21,7 @@ section_header body at = if is_extended body at then 8 else 4
 
 -- how many bytes the section has with its header: ExtendedSize of a longer header, Size of another
 abbrev pub section_size : List ℕ → ℕ → ℕ
-section_size body at = if is_extended body at then number_at body (at + 4) 4 else number_at body at 3
+section_size body at = if is_extended body at then number_in body (at + 4) 4 else number_in body at 3
 
 -- whether a section stands at a place of a body: it has its header and lies in the body
 abbrev pub has_section : List ℕ → ℕ → Bool
@@ -32,7 +32,7 @@ has_section body at =
 -- the section at a place of a body that begins at this place of the bytes: its Type, and its data, which lie behind its header
 abbrev pub section_at : List ℕ → ℕ → ℕ → Section
 section_at body begin at = record {
-  kind = number_at body (at + 3) 1;
+  kind = number_in body (at + 3) 1;
   at = begin + at + section_header body at;
   length = section_size body at - section_header body at;
 }

@@ -3,7 +3,7 @@
 use Rattle.std.specs.Prelude.{ℕ, ◌+◌, ◌*◌, ◌/◌, ◌%◌, Bool, if◌then◌else◌, ◌==◌, ◌&&◌, ◌||◌, nat_le, List, [], ◌∷◌, length, take, drop, codes, Option}
 use Rattle.std.specs.Str.{bytes_eq}
 use Rattle.mm_base.specs.Checks.{Check, first_failing as first_failing_of}
-use Rattle.mm_base.specs.Numbers.{number_at, has_bit}
+use Rattle.mm_base.specs.Numbers.{number_in, has_bit}
 use Rattle.mm_base.specs.declared.volume.VolumeKind.{VolumeKind}
 use Rattle.mm_base.specs.declared.volume.VolumeKind.TheVariants.{Short, Signature, HeaderLength, HeaderSum, Revision, FileSystem, Length, ExtHeader}
 use Rattle.volume_reader.specs.Sums.{sum_in_16_bits}
@@ -14,23 +14,23 @@ file_system bytes = take 16 (drop 16 bytes)
 
 -- FvLength: how many bytes the volume has, with its header
 abbrev pub volume_length : List ℕ → ℕ
-volume_length bytes = number_at bytes 32 8
+volume_length bytes = number_in bytes 32 8
 
 -- Attributes, of type EFI_FVB_ATTRIBUTES_2
 abbrev pub attributes : List ℕ → ℕ
-attributes bytes = number_at bytes 44 4
+attributes bytes = number_in bytes 44 4
 
 -- HeaderLength: how many bytes the header has, with its block map
 abbrev pub header_length : List ℕ → ℕ
-header_length bytes = number_at bytes 48 2
+header_length bytes = number_in bytes 48 2
 
 -- ExtHeaderOffset: where the extended header stands, or 0 where there is none
 abbrev pub ext_header : List ℕ → ℕ
-ext_header bytes = number_at bytes 52 2
+ext_header bytes = number_in bytes 52 2
 
 -- ExtHeaderSize of the extended header: how many bytes it has; it stands behind FvName, which has 16 bytes
 abbrev pub ext_size : List ℕ → ℕ
-ext_size bytes = number_at bytes (ext_header bytes + 16) 4
+ext_size bytes = number_in bytes (ext_header bytes + 16) 4
 
 -- EFI_FIRMWARE_FILE_SYSTEM2_GUID, 8c8ce578-8a3d-4f1c-9935-896185c32dd3, as it is stored
 abbrev pub ffs2_guid : List ℕ
@@ -58,7 +58,7 @@ checks bytes =
     ∷ record { kind = Signature; at = 40; passes = bytes_eq (take 4 (drop 40 bytes)) (codes "_FVH") }
     ∷ record { kind = HeaderLength; at = 48; passes = nat_le 64 (header_length bytes) && (header_length bytes % 2 == 0) && nat_le (header_length bytes) (length bytes) }
     ∷ record { kind = HeaderSum; at = 50; passes = sum_in_16_bits (take (header_length bytes) bytes) == 0 }
-    ∷ record { kind = Revision; at = 55; passes = number_at bytes 55 1 == 2 }
+    ∷ record { kind = Revision; at = 55; passes = number_in bytes 55 1 == 2 }
     ∷ record { kind = FileSystem; at = 16; passes = bytes_eq (file_system bytes) ffs2_guid || is_ffs3 bytes }
     ∷ record { kind = Length; at = 32; passes = nat_le (header_length bytes) (volume_length bytes) && nat_le (volume_length bytes) (length bytes) }
     ∷ record { kind = ExtHeader; at = 52; passes = ext_header_fits bytes }

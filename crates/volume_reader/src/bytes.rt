@@ -1,13 +1,13 @@
 //! Bytes, and sums of them.
 ghost use Rattle.std.specs.Prelude.{◌≡◌, ◌+◌, ◌%◌, ◌^◌, ◌≤◌, ◌<◌, length};
-ghost use Rattle.mm_base.specs.Numbers.{number_at as number_there};
+ghost use Rattle.mm_base.specs.Numbers.{number_in};
 ghost use Rattle.volume_reader.specs.Sums.{sum_in_8_bits, sum_in_16_bits};
 ghost use Rattle.volume_reader.specs.VolumeHeader.{up_to_8 as rounded_up};
 
 /// The byte at a place.
 pub(crate) fn byte_at(bytes: &[u8], at: usize) -> u8
     requires { at < length bytes.now }
-    ensures { result ≡ number_there bytes.now at 1 }
+    ensures { result ≡ number_in bytes.now at 1 }
 {
     bytes[at]
 }

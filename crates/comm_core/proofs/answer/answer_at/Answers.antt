@@ -1,6 +1,6 @@
 use Rattle.std.proofs.Common.{◌+◌, ◌∙◌, sym, ap, arith, map, Some}
 use Rattle.std.specs.List.{slice_get}
-use Rattle.mm_base.specs.Numbers.{word_at}
+use Rattle.mm_base.specs.Numbers.{word_in}
 use Rattle.comm_core.specs.Piece.{answer, store}
 use Rattle.comm_core.specs.declared.action.Action.TheVariants.{Store}
 use Rattle.comm_core.proofs.AnswerLemmas.{length-answer_dispatched, answer-word, answer-length, answer-status}
@@ -10,7 +10,7 @@ pub returns-then-n-words : goal.returns-then-n-words
 returns-then-n-words c =
     let r = c.args.receipt.now in
     answer-word r c.args.n c.if-not-receipt.false (omega (arith, c.reply_words-words.ensures))
-    ∙ ap (λ v. Some (Store (2 + c.args.n) v)) (ap (λ bytes. word_at bytes c.args.n) (sym c.as_slice.ensures) ∙ sym c.word_at-value.ensures)
+    ∙ ap (λ v. Some (Store (2 + c.args.n) v)) (ap (λ bytes. word_in bytes c.args.n) (sym c.as_slice.ensures) ∙ sym c.word_at-value.ensures)
 
 pub returns-then-n-words-2 : goal.returns-then-n-words-2
 returns-then-n-words-2 c =

@@ -1,5 +1,5 @@
 use Rattle.std.proofs.Common.{List, [], length, ◌∙◌, sym, ap, subst, arith}
-use Rattle.mm_base.specs.Room.{Roomy}
+use Rattle.mm_base.specs.Room.{RoomState}
 use Rattle.mm_history.specs.History.{KeptState}
 use Rattle.comm_core.specs.Transitions.{new_lanes}
 use Rattle.comm_core.specs.World.{LaneState, IsReady, StandsAt, turns_to_come}
@@ -17,7 +17,7 @@ invariant_of-result g c =
     let lanes = new_lanes c.args.words c.args.lanes in
     let P : List LaneState → Type 0 = λ x. IsReady words x (calls c.begin.result.machine) (length c.begin.result.entries) c.none.result in
     let Q : KeptState _ → Type 0 = λ x. IsReady words lanes (calls x.machine) (length x.entries) c.none.result in
-    let R : Roomy Trace → Type 0 = λ x. IsReady words lanes (calls c.args.machine) 0 x in
+    let R : RoomState Trace → Type 0 = λ x. IsReady words lanes (calls c.args.machine) 0 x in
     subst P (sym c.in_ok-lanes.ensures) (subst Q (sym c.begin.ensures.begins) (subst R (sym c.none.ensures)
     (ready_new words c.args.lanes (calls c.args.machine) c.requires.low c.requires.high c.requires.few)))
 
@@ -28,7 +28,7 @@ returns-clause-stands g c =
     let lanes = new_lanes c.args.words c.args.lanes in
     let P : List LaneState → Type 0 = λ x. StandsAt step c.args.machine [] (record { words = words; lanes = x; machine = c.begin.result.machine; entries = c.begin.result.entries; trace = c.none.result.items }) in
     let Q : KeptState _ → Type 0 = λ x. StandsAt step c.args.machine [] (record { words = words; lanes = lanes; machine = x.machine; entries = x.entries; trace = c.none.result.items }) in
-    let R : Roomy Trace → Type 0 = λ x. StandsAt step c.args.machine [] (record { words = words; lanes = lanes; machine = c.args.machine; entries = []; trace = x.items }) in
+    let R : RoomState Trace → Type 0 = λ x. StandsAt step c.args.machine [] (record { words = words; lanes = lanes; machine = c.args.machine; entries = []; trace = x.items }) in
     subst P (sym c.in_ok-lanes.ensures) (subst Q (sym c.begin.ensures.begins) (subst R (sym c.none.ensures) (stands_new step c.args.machine words c.args.lanes)))
 
 pub returns-clause-lanes : goal.returns-clause-lanes

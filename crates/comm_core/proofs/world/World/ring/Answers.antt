@@ -1,5 +1,5 @@
 use Rattle.std.proofs.Common.{◌^◌, ◌<◌, length, true, ◌≡◌, ◌∙◌, sym, ap, arith}
-use Rattle.mm_base.specs.Prepared.{Readied}
+use Rattle.mm_base.specs.Prepared.{PreparedState}
 use Rattle.comm_core.specs.Processor.{IsBlank, is_resting}
 use Rattle.comm_core.specs.Transitions.{records_left}
 use Rattle.comm_core.specs.World.{LaneState, WorldState, IsRoomy}
@@ -17,8 +17,8 @@ ring-requires g c =
     let resting : is_resting at.processor.stage ≡ true = ap (λ (x : LaneState). is_resting x.processor.stage) (sym same) ∙ sym c.is_resting.ensures ∙ c.if-not-is_resting.false in
     let e = c.in_ok-prepared.ensures in
     let blank : IsBlank at.processor.words c.in_ok-prepared.prepared = record {
-      bytes = ap (λ (p : Readied). p.captured.items) e;
-      room = omega (arith, ap (λ (p : Readied). p.captured.room) e, own.words_are);
+      bytes = ap (λ (p : PreparedState). p.captured.items) e;
+      room = omega (arith, ap (λ (p : PreparedState). p.captured.room) e, own.words_are);
     } in
     may_ring at.processor.words at.processor.stage c.in_ok-prepared.prepared resting blank
 
@@ -34,9 +34,9 @@ invariant_of-self-2 g c =
     let e = c.in_ok-prepared.ensures in
     let are_calls = c.calls.ensures ∙ ap calls c.machine.ensures in
     let roomy : IsRoomy words (calls c.self.inside.kept.machine) c.in_ok-prepared.prepared = record {
-      calls_fit = omega (arith, ap (λ (p : Readied). p.calls) e, are_calls);
-      reply = omega (arith, ap (λ (p : Readied). p.reply) e);
-      second = omega (arith, ap (λ (p : Readied). p.second) e);
+      calls_fit = omega (arith, ap (λ (p : PreparedState). p.calls) e, are_calls);
+      reply = omega (arith, ap (λ (p : PreparedState). p.reply) e);
+      second = omega (arith, ap (λ (p : PreparedState). p.second) e);
     } in
     let left = c.records_to_come.ensures.value ∙ ap records_left c.as_slice.ensures.value in
     let few : length c.self.inside.kept.entries < 2 ^ 32 = omega (arith, c.requires.room, ap (λ (v : WorldState _). length v.entries) c.self.view_is) in

@@ -1,7 +1,7 @@
 use Rattle.std.proofs.Common.{ℕ, ◌<◌, ◌++◌, ◌∷◌, [], List, ◌∙◌, length, length-append, sym, ap, subst, refl, arith}
 use Rattle.mm_base.specs.declared.entry.Entry.{Entry}
 use Rattle.mm_base.specs.declared.receipt.Receipt.{Receipt}
-use Rattle.mm_base.specs.Room.{Roomy}
+use Rattle.mm_base.specs.Room.{RoomState}
 use Rattle.comm_core.specs.Processor.{next_action, MayTake}
 use Rattle.comm_core.specs.Transitions.{lane_at, lane_answered, turns}
 use Rattle.comm_core.specs.World.{LaneState, WorldState}
@@ -72,7 +72,7 @@ returns g c =
     let m = c.self.inside.kept.machine in
     let r = c.take_request-prepared.result.entry.request in
     let answered = c.answer.ensures ∙ ap (λ (x : LaneState). lane_answered x c.serve-receipt.result) c.take_request-prepared.ensures.stage.1 in
-    let told_trace = ap (λ (x : Roomy Trace). x.items) c.push.ensures
+    let told_trace = ap (λ (x : RoomState Trace). x.items) c.push.ensures
     ∙ ap (λ (x : Receipt). c.self.inside.trace.items ++ Turned c.args.lane x.position ∷ []) c.serve-receipt.ensures.receipt in
     seen_turn stepped c.self.inside.words c.self.inside.lanes.items m c.serve-receipt.new.self.machine c.self.inside.kept.entries c.serve-receipt.new.self.entries
     c.self.inside.trace.items c.push.new.self.items c.args.lane at c.answer.new.self r (stepped m r).0 c.serve-receipt.result there

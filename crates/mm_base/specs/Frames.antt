@@ -1,0 +1,21 @@
+-- Pages of memory, by their bytes and by which of them are live.
+use Rattle.std.specs.Prelude.{◌≡◌, ◌<◌, ◌≤◌, ℕ, ◌^◌, Bool, true, false, List, [], length, get_or, set, All}
+use Rattle.mm_base.specs.Numbers.{overwritten}
+
+-- Each page has 4,096 bytes, and there are fewer pages than 2 ^ 20, so that memory has fewer bytes than 2 ^ 32.
+pub record ArePages (pages : List (List ℕ)) : Type 0 where
+  pub size : All (λ page. length page ≡ 4096) pages
+  pub bytes : All (λ page. All (λ byte. byte < 256) page) pages
+  pub few : length pages < 2 ^ 20
+
+-- a page is live: it is there, and may be read and written
+abbrev pub IsLive : List Bool → ℕ → Type 0
+IsLive live page = get_or live page false ≡ true
+
+-- the bytes of a page
+abbrev pub page_in : List (List ℕ) → ℕ → List ℕ
+page_in pages page = get_or pages page []
+
+-- the pages, with a piece written over one of them from a place on
+abbrev pub with_piece : List (List ℕ) → ℕ → ℕ → List ℕ → List (List ℕ)
+with_piece pages page at piece = set pages page (overwritten (page_in pages page) at piece)
