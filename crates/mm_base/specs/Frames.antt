@@ -1,12 +1,11 @@
 -- Pages of memory, by their bytes and by which of them are live.
-use Rattle.std.specs.Prelude.{◌≡◌, ◌<◌, ◌≤◌, ℕ, ◌^◌, Bool, true, false, List, [], length, get_or, set, All}
+use Rattle.std.specs.Prelude.{◌≡◌, ◌<◌, ℕ, Bool, true, false, List, [], length, get_or, set, All}
 use Rattle.mm_base.specs.Numbers.{overwritten}
 
--- Each page has 4,096 bytes, and there are fewer pages than 2 ^ 20, so that memory has fewer bytes than 2 ^ 32.
+-- Each page has 4,096 bytes.
 pub record ArePages (pages : List (List ℕ)) : Type 0 where
   pub size : All (λ page. length page ≡ 4096) pages
   pub bytes : All (λ page. All (λ byte. byte < 256) page) pages
-  pub few : length pages < 2 ^ 20
 
 -- a page is live: it is there, and may be read and written
 abbrev pub IsLive : List Bool → ℕ → Type 0

@@ -14,7 +14,8 @@ pub trait Frames {
     /// How many pages there are.
     fn pages(&self) -> u32
         ensures count { result ≡ length (contents self.now) }
-        ensures whole { ArePages (contents self.now) };
+        ensures whole { ArePages (contents self.now) }
+        ensures flags { length (live self.now) ≡ length (contents self.now) };
 
     /// The number in the `n` bytes from `at` of a page.
     fn read(&self, page: u32, at: u16, n: u8) -> u64
