@@ -1,6 +1,6 @@
 //! Frames: the pages that memory is made of.
-ghost use Rattle.std.specs.Prelude.{◌≡◌, ◌+◌, ◌≤◌, ◌<◌, ℕ, Bool, List, length, replicate, set};
-ghost use Rattle.mm_base.specs.Frames.{ArePages, IsLive, page_in, with_piece};
+ghost use Rattle.std.specs.Prelude.{◌≡◌, ◌+◌, ◌≤◌, ◌<◌, ℕ, Bool, List, length, set};
+ghost use Rattle.mm_base.specs.Frames.{ArePages, IsLive, page_in, with_piece, zeros};
 ghost use Rattle.mm_base.specs.Numbers.{low_bytes, number_in};
 
 /// Pages of 4,096 bytes, of which those that are live may be read and written.
@@ -44,6 +44,6 @@ pub trait Frames {
     /// Fills a page with zeros.
     fn zero(&mut self, page: u32)
         requires { IsLive (live self.old) page }
-        ensures bytes { contents self.new ≡ set (contents self.old) page (replicate 4096 0) }
+        ensures bytes { contents self.new ≡ set (contents self.old) page (zeros 4096) }
         ensures live { live self.new ≡ live self.old };
 }
