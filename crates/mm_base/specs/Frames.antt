@@ -1,11 +1,10 @@
 -- Pages of memory, by their bytes and by which of them are live.
-use Rattle.std.specs.Prelude.{◌≡◌, ◌<◌, ℕ, Bool, true, false, List, [], length, get_or, set, replicate, All}
+use Rattle.std.specs.Prelude.{◌≡◌, ℕ, Bool, true, false, List, [], length, get_or, set, replicate, All}
 use Rattle.mm_base.specs.Numbers.{overwritten}
 
 -- Each page has 4,096 bytes.
-pub record ArePages (pages : List (List ℕ)) : Type 0 where
-  pub size : All (λ page. length page ≡ 4096) pages
-  pub bytes : All (λ page. All (λ byte. byte < 256) page) pages
+abbrev pub ArePages : List (List ℕ) → Type 0
+ArePages pages = All (λ page. length page ≡ 4096) pages
 
 -- n bytes that are 0
 unfoldable pub zeros : ℕ → List ℕ

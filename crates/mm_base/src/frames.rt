@@ -1,5 +1,5 @@
 //! Frames: the pages that memory is made of.
-ghost use Rattle.std.specs.Prelude.{◌≡◌, ◌+◌, ◌≤◌, ◌<◌, ℕ, Bool, List, length, set};
+ghost use Rattle.std.specs.Prelude.{◌≡◌, ◌+◌, ◌≤◌, ◌<◌, ◌^◌, ℕ, Bool, List, length, set};
 ghost use Rattle.mm_base.specs.Frames.{ArePages, IsLive, page_in, with_piece, zeros};
 ghost use Rattle.mm_base.specs.Numbers.{low_bytes, number_in};
 
@@ -23,7 +23,8 @@ pub trait Frames {
         requires low { 1 ≤ n }
         requires high { n ≤ 8 }
         requires within { at + n ≤ 4096 }
-        ensures { result ≡ number_in (page_in (contents self.now) page) at n };
+        ensures value { result ≡ number_in (page_in (contents self.now) page) at n }
+        ensures small { result < 256 ^ n };
 
     /// Writes the `n` low bytes of a number to those from `at` of a page.
     fn write(&mut self, page: u32, at: u16, n: u8, value: u64)
