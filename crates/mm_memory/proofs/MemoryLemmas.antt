@@ -3,10 +3,10 @@ use Rattle.std.proofs.Common.{◌≡◌, ℕ, zero, suc, ◌+◌, ◌-◌, ◌*�
 use Rattle.std.proofs.Common.{refl, inl, inr, sym, ap, subst, ◌∙◌, mul_comm, pow-add, length-set, arith}
 use Rattle.std.proofs.Math.Nat.{pow-succ', pow-le-pow_right, mul-le-mul_right, suc-mul}
 use Rattle.std.proofs.Math.Pow.{shl_exact, pow_mono}
-use Rattle.std.proofs.lemmas.List.{length-take, length-drop, take-append-drop, take-replicate}
+use Rattle.std.proofs.lemmas.List.{length-take, length-drop, take-append-drop, take-replicate, get_or-replicate}
 use Rattle.mm_base.specs.Frames.{ArePages, IsLive, page_in, with_piece, zeros}
 use Rattle.mm_base.specs.Numbers.{overwritten, number_of, number_in}
-use Rattle.mm_memory.specs.Flat.{MemoryState, joined, IsWidth, IsWhole}
+use Rattle.mm_memory.specs.Flat.{MemoryState, joined, AreLive, IsWidth, IsWhole}
 use Rattle.mm_memory.proofs.PageLemmas.{chunk_of_page, joined-with_piece, length-joined, are_pages-with_piece, overwritten-after, length-overwritten, number_in-split, length-zeros, overwritten-whole, size_of_page}
 
 -- ---- numbers of two parts
@@ -146,3 +146,11 @@ module _ (pages after : List (List ℕ)) (live : List Bool) (whole : IsWhole pag
 pub zeros_of_block : (n : ℕ) (block piece : List ℕ) → n ≤ 64 → block ≡ replicate 64 0 → piece ≡ take n block → piece ≡ zeros n
 unfolding zeros
 zeros_of_block n block piece few is front = front ∙ ap (take n) is ∙ take-replicate n 64 0 few
+
+-- ---- tests
+
+-- where all pages are live, those of any bytes in range are
+pub all_live : (pages at n : ℕ) (live : List Bool) → live ≡ replicate pages true → at + n ≤ 4096 * pages → AreLive live at n
+all_live pages at n live is within page begins ends =
+    let P : List Bool → Type 0 = λ live. IsLive live page in
+    subst P (sym is) (get_or-replicate pages page true false (omega arith))

@@ -78,9 +78,9 @@ stays_before bytes piece at from n fits before =
     ∙ ap (take n) (drop-append-le from (take at bytes) (piece ++ rest) (omega (arith, long)))
     ∙ take-append-le n (drop from (take at bytes)) (piece ++ rest) (omega (arith, long, length-drop from (take at bytes)))
     ∙ sym (
-      ap (λ (all : List ℕ). take n (drop from all)) (sym (take-append-drop at bytes))
-      ∙ ap (take n) (drop-append-le from (take at bytes) (drop at bytes) (omega (arith, long)))
-      ∙ take-append-le n (drop from (take at bytes)) (drop at bytes) (omega (arith, long, length-drop from (take at bytes)))
+    ap (λ (all : List ℕ). take n (drop from all)) (sym (take-append-drop at bytes))
+    ∙ ap (take n) (drop-append-le from (take at bytes) (drop at bytes) (omega (arith, long)))
+    ∙ take-append-le n (drop from (take at bytes)) (drop at bytes) (omega (arith, long, length-drop from (take at bytes)))
     )
 
 -- what stands after a piece stays
@@ -132,17 +132,17 @@ chunk_of_page (first ∷ pages) zero at n are there fits =
     let size : length first ≡ 4096 = All-head (λ page. length page ≡ 4096) first pages are in
     let place : 4096 * zero + at ≡ at = omega arith in
     sym (
-      ap (λ k. take n (drop k (first ++ joined pages))) place
-      ∙ ap (take n) (drop-append-le at first (joined pages) (omega arith))
-      ∙ take-append-le n (drop at first) (joined pages) (omega (arith, length-drop at first))
+    ap (λ k. take n (drop k (first ++ joined pages))) place
+    ∙ ap (take n) (drop-append-le at first (joined pages) (omega arith))
+    ∙ take-append-le n (drop at first) (joined pages) (omega (arith, length-drop at first))
     )
 chunk_of_page (first ∷ pages) (suc page) at n are there fits =
     let size : length first ≡ 4096 = All-head (λ page. length page ≡ 4096) first pages are in
     let place : 4096 * suc page + at ≡ length first + (4096 * page + at) = omega arith in
     chunk_of_page pages page at n (All-tail (λ page. length page ≡ 4096) first pages are) (omega arith) fits
     ∙ sym (
-      ap (λ k. take n (drop k (first ++ joined pages))) place
-      ∙ ap (take n) (drop-append-add first (joined pages) (4096 * page + at))
+    ap (λ k. take n (drop k (first ++ joined pages))) place
+    ∙ ap (take n) (drop-append-add first (joined pages) (4096 * page + at))
     )
 
 -- a piece written to a page is written to memory
@@ -153,8 +153,8 @@ joined-with_piece (first ∷ pages) zero at piece are there fits =
     let size : length first ≡ 4096 = All-head (λ page. length page ≡ 4096) first pages are in
     let place : 4096 * zero + at ≡ at = omega arith in
     sym (
-      ap (λ k. overwritten (first ++ joined pages) k piece) place
-      ∙ overwritten-append_left first (joined pages) piece at (omega arith)
+    ap (λ k. overwritten (first ++ joined pages) k piece) place
+    ∙ overwritten-append_left first (joined pages) piece at (omega arith)
     )
 joined-with_piece (first ∷ pages) (suc page) at piece are there fits =
     let size : length first ≡ 4096 = All-head (λ page. length page ≡ 4096) first pages are in
@@ -162,8 +162,8 @@ joined-with_piece (first ∷ pages) (suc page) at piece are there fits =
     let rest = All-tail (λ page. length page ≡ 4096) first pages are in
     ap (λ (bytes : List ℕ). first ++ bytes) (joined-with_piece pages page at piece rest (omega arith) fits)
     ∙ sym (
-      ap (λ k. overwritten (first ++ joined pages) k piece) place
-      ∙ overwritten-append_right first (joined pages) piece (4096 * page + at)
+    ap (λ k. overwritten (first ++ joined pages) k piece) place
+    ∙ overwritten-append_right first (joined pages) piece (4096 * page + at)
     )
 
 pub length-joined : (pages : List (List ℕ)) → ArePages pages → length (joined pages) ≡ 4096 * length pages

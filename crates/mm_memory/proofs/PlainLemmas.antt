@@ -63,10 +63,10 @@ module _ (inside now : PlainState) (is : inside ≡ now) (size : length inside.b
   plain_piece page at place told piece after there fits place_is told_is after_is =
       ap (λ (plain : PlainState). pages_in plain.pages after) is
       ∙ ap (pages_in now.pages) (
-        after_is
-        ∙ ap (λ (plain : PlainState). overwritten plain.bytes place told) is
-        ∙ ap (λ k. overwritten now.bytes k told) place_is
-        ∙ ap (overwritten now.bytes (4096 * page + at)) told_is
+      after_is
+      ∙ ap (λ (plain : PlainState). overwritten plain.bytes place told) is
+      ∙ ap (λ k. overwritten now.bytes k told) place_is
+      ∙ ap (overwritten now.bytes (4096 * page + at)) told_is
       )
       ∙ plain_write now.pages now.bytes (size_of_plain inside now is size) page at piece there fits
 
@@ -77,8 +77,8 @@ module _ (inside now : PlainState) (is : inside ≡ now) (size : length inside.b
   plain_page page place after there place_is after_is =
       ap (λ (plain : PlainState). pages_in plain.pages after) is
       ∙ ap (pages_in now.pages) (
-        after_is
-        ∙ ap (λ (plain : PlainState). overwritten plain.bytes place (zeros 4096)) is
-        ∙ ap (λ k. overwritten now.bytes k (zeros 4096)) place_is
+      after_is
+      ∙ ap (λ (plain : PlainState). overwritten plain.bytes place (zeros 4096)) is
+      ∙ ap (λ k. overwritten now.bytes k (zeros 4096)) place_is
       )
       ∙ plain_zero now.pages now.bytes (size_of_plain inside now is size) page there

@@ -122,7 +122,9 @@ impl<F: Frames> Memory<F> {
             self.frames.zero(page);
             return PAGE_BYTES as u64;
         }
-        let count = most.min(BLOCK as u64).min((PAGE_BYTES as u16 - offset) as u64);
+        let count = most
+            .min(BLOCK as u64)
+            .min((PAGE_BYTES as u16 - offset) as u64);
         let block = [0; BLOCK];
         let (piece, _) = block.split_at(count as usize);
         self.frames.copy_in(page, offset, piece);
