@@ -1,0 +1,24 @@
+//! The comparisons of CMP and CMPI.
+ghost use Rattle.std.specs.Prelude.{◌≡◌};
+ghost use Rattle.ebc_alu.specs.Tests.{test_of};
+
+use mm_base::CmpOp;
+
+use crate::reading::{operand, to_signed};
+
+/// Whether a comparison holds of its operands, on 64 bits where it is wide and else on the low 32 bits of both (UEFI 2.10, section
+/// 22.8, CMP and CMPI). A few machine operations, without memory.
+#[inline]
+pub fn compare(op: CmpOp, wide: bool, a: u64, b: u64) -> bool
+    ensures { result ≡ test_of op wide a b }
+{
+    let first = operand(wide, a);
+    let second = operand(wide, b);
+    match op {
+        CmpOp::Equal => first == second,
+        CmpOp::LessOrEqual => to_signed(wide, first) <= to_signed(wide, second),
+        CmpOp::GreaterOrEqual => to_signed(wide, second) <= to_signed(wide, first),
+        CmpOp::UnsignedLessOrEqual => first <= second,
+        CmpOp::UnsignedGreaterOrEqual => second <= first,
+    }
+}
