@@ -9,13 +9,13 @@ use Rattle.std.proofs.Math.Nat.{div-add-mod', mod-add-mod, mod_self, zero-mod, m
 use lib.Signed.{mag}
 use mir.Val.{bits}
 use Rattle.ebc_alu.specs.Reading.{width, low_bits, signed, reduced}
-use Rattle.ebc_alu.specs.Results.{difference, quotient, remainder, signed_quotient, signed_remainder, left_shift, right_shift, signed_right_shift}
+use Rattle.ebc_alu.specs.Results.{difference, signed_quotient, signed_remainder, left_shift, right_shift, signed_right_shift}
 use Rattle.ebc_alu.specs.Index.{distance, offset_of}
 use Rattle.ebc_alu.specs.Laws.{SignedDivisionsFit, UnsignedDivisionsFit, RemaindersAreSmall, LeastByMinusOne, NegativesCancel, CountsPastTheWidth, ComparisonsAreTotal, SignsCancel}
 use Rattle.ebc_alu.proofs.ReadingLemmas.{signed-cast, signed-fits, signed-fits_64, reduced-lt, reduced_is, reduced-signed, low-lt}
 use Rattle.ebc_alu.proofs.SumLemmas.{same_from_cast}
 use Rattle.ebc_alu.proofs.ShiftLemmas.{past-left, past-right}
-use Rattle.ebc_alu.proofs.IndexLemmas.{distance-is, distance-lt, offset-plus, offset-minus}
+use Rattle.ebc_alu.proofs.IndexLemmas.{few_bytes, distance-is, distance-lt, offset-plus, offset-minus}
 
 -- ---- divisions
 module _ (v : Width) (a b : ℕ) (p : a < 2 ^ bits v) (q : b < 2 ^ bits v) where
@@ -69,10 +69,10 @@ module _ (v : Width) (a b : ℕ) (p : a < 2 ^ bits v) (q : b < 2 ^ bits v) where
       ∙ same_from_cast v _ a (mod-lt ((times * b) % 2 ^ bits v + left) (pow_pos (bits v))) p cast-whole
 
   divisor-abs : 0 < b → 0 < unsigned_abs y
+  unfolding reduced
   divisor-abs h = by y (reduced-signed (bits v) b q)
     where
       by : (z : ℤ) → reduced (bits v) z ≡ b → 0 < unsigned_abs z
-      unfolding reduced
       by (pos zero) e = absurd (omega (arith, zero-mod (2 ^ bits v)))
       by (pos (suc n)) e = omega arith
       by (negsuc n) e = omega arith
@@ -90,7 +90,6 @@ signed_divisions_fit true a b ne = division-fits w64 _ _ (low-lt true a) (low-lt
 signed_divisions_fit false a b ne = division-fits w32 _ _ (low-lt false a) (low-lt false b)
 
 pub unsigned_divisions_fit : UnsignedDivisionsFit
-unfolding quotient remainder
 unsigned_divisions_fit wide a b ne = div-add-mod' (low_bits (width wide) a) (low_bits (width wide) b)
 
 pub remainders_are_small : RemaindersAreSmall
@@ -134,16 +133,23 @@ counts_past_the_width wide a b le = (
     fill (width wide) (low_bits (width wide) b) (signed (width wide) (low_bits (width wide) a)) (sign-fits wide _ (low-lt wide a)) le)
 
 -- ---- comparisons
-one_at_most : (x y : ℤ) → (int_le x y || int_le y x) ≡ true
+one_at_most : (m n : ℤ) → (int_le m n || int_le n m) ≡ true
 one_at_most (pos a) (pos b) = grind (arith, nat_tests)
 one_at_most (pos a) (negsuc b) = refl
 one_at_most (negsuc a) (pos b) = refl
 one_at_most (negsuc a) (negsuc b) = grind (arith, nat_tests)
 
-both_at_most : (x y : ℤ) → Decides (int_le x y && int_le y x) (x ≡ y)
-both_at_most x y = (
-    λ e. (let h = and_parts _ _ e in let first = h.0 in let second = h.1 in omega (arith, ints)),
-    λ e. and_from _ _ (sym (omega (arith, ints))) (sym (omega (arith, ints))))
+both_at_most : (m n : ℤ) → Decides (int_le m n && int_le n m) (m ≡ n)
+both_at_most m n = (same, both)
+  where
+    same : (int_le m n && int_le n m) ≡ true → m ≡ n
+    same e = let h = and_parts (int_le m n) (int_le n m) e in omega (arith, ints, h.0, h.1)
+
+    both : m ≡ n → (int_le m n && int_le n m) ≡ true
+    both e =
+        let first : true ≡ int_le m n = omega (arith, ints) in
+        let second : true ≡ int_le n m = omega (arith, ints) in
+        and_from (int_le m n) (int_le n m) (sym first) (sym second)
 
 same_reading : (k a b : ℕ) → a < 2 ^ k → b < 2 ^ k → signed k a ≡ signed k b → a ≡ b
 same_reading k a b p q e = sym (reduced-signed k a p) ∙ ap (reduced k) e ∙ reduced-signed k b q
@@ -210,13 +216,14 @@ module _ (bytes raw end : ℕ) (ends : end + 4 ≡ 8 * bytes) (small : end ≤ 6
       let plus = offset-plus bytes raw end ends (omega (arith, raw-lt, four)) lt head-lt in
       let minus =
       offset-minus bytes negated end ends (omega (arith, raw-lt, four)) (omega (arith, distance-same, lt)) (omega (arith, head-is)) in
+      let whole : 0 + (2 ^ 64 - distance bytes raw) + distance bytes raw ≡ 2 ^ 64 = omega (arith, lt) in
       (λ i. ((minus ∙ ap (λ d. (0 + (2 ^ 64 - d)) % 2 ^ 64) distance-same) i + plus i) % 2 ^ 64)
       ∙ mod-add-mod (0 + (2 ^ 64 - distance bytes raw)) (2 ^ 64) (distance bytes raw)
-      ∙ ap (λ m. m % 2 ^ 64) (omega (arith, lt))
+      ∙ ap (λ m. m % 2 ^ 64) whole
 
 pub signs_cancel : SignsCancel
 signs_cancel bytes raw widths fits =
-    let known : (1 ≤ bytes) × (bytes ≤ 8) = ⊎_elim (λ e. omega arith) (λ w. ⊎_elim (λ e. omega arith) (λ e. omega arith) w) widths in
+    let known = few_bytes bytes widths in
     let end = 8 * bytes - 4 in
     let top : 8 * bytes - 1 ≡ 3 + end = omega arith in
     let is : 2 ^ (8 * bytes - 1) ≡ 8 * 2 ^ end = ap (λ n. 2 ^ n) top ∙ pow-add 2 3 end in

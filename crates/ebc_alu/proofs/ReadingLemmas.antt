@@ -1,7 +1,8 @@
 -- How std's signed numbers read as `signed` and `reduced`.
 use Rattle.std.proofs.Common.{◌≡◌, ◌≢◌, ℕ, suc, ◌+◌, ◌-◌, ◌*◌, ◌%◌, ◌^◌, ◌<◌, ◌≤◌, Bool, true, false, cond, ltb, ℤ, pos, negsuc, ◌-ℤ◌, ◌+ℤ◌, unsigned_abs, FitsSigned, refl, sym, ◌∙◌, ap, subst, arith, w8, w16, w32, w64, pow_pos, mod-lt, mod-eq_of_lt, ltb-true, ltb-false}
 use Rattle.std.specs.Int.{Width, w128, cast_signed, cast_unsigned, int_rem_euclid}
-use Rattle.std.proofs.lemmas.Int.{ints, int_rem_euclid_is, of_z-to_z}
+use Rattle.std.proofs.lemmas.Int.{ints, int_rem_euclid_is, of_z-to_z, to_z-of_z}
+use lib.Signed.{mag}
 use Rattle.std.proofs.Math.Nat.{mod-mod}
 use Rattle.std.proofs.Math.Pow.{mod-mod-pow}
 use mir.Val.{bits, hbits, sel}
@@ -42,7 +43,11 @@ pub signed-fits_64 : (wide : Bool) (n : ℕ) → n < 2 ^ width wide → FitsSign
 signed-fits_64 true n h = signed-fits w64 n h
 signed-fits_64 false n h = let f = signed-fits w32 n h in omega (arith, ints)
 
--- z and 2^k, so many times, are m
+-- a signed number that was handed over by its bits
+pub passed : (v : Width) (z x : ℤ) → mag z < 2 ^ hbits v → z ≡ x → cast_signed v (cast_unsigned v z) ≡ x
+passed v z x h e = to_z-of_z v z (record { sfits = h }) ∙ e
+
+-- z and 2^k, taken some times, are m
 pub reduced_is : (k : ℕ) (z : ℤ) (times m : ℕ) → z +ℤ pos (times * 2 ^ k) ≡ pos m → reduced k z ≡ m % 2 ^ k
 unfolding reduced
 reduced_is k z times m e = ap unsigned_abs (int_rem_euclid_is z (pos (2 ^ k)) (2 ^ k) times m (pow_pos k) refl e)

@@ -1,7 +1,7 @@
 -- Natural indexes (UEFI 2.10, section 22.4): an offset that counts natural units, which have 8 bytes here, and bytes.
 --
--- From the top down an index of 2, 4 or 8 bytes has the sign, three bits that say how wide the natural field is, the constant
--- field and the natural field.
+-- From the top down an index of 2, 4 or 8 bytes has the sign, three bits that say how wide the natural field is, the
+-- constant field and the natural field.
 use Rattle.std.specs.Prelude.{ℕ, ◌+◌, ◌-◌, ◌*◌, ◌/◌, ◌%◌, ◌^◌, min, if◌then◌else◌, ◌==◌, ℤ, pos, negsuc, ◌*ℤ◌}
 use Rattle.ebc_alu.specs.Reading.{reduced}
 
@@ -9,12 +9,13 @@ use Rattle.ebc_alu.specs.Reading.{reduced}
 abbrev pub bits_between : ℕ → ℕ → ℕ → ℕ
 bits_between low high n = n / 2 ^ low % 2 ^ (high - low)
 
--- The place of the three bits, to which the fields reach up.
+-- the place of the three bits, below which the fields are
 abbrev pub fields_end : ℕ → ℕ
 fields_end bytes = 8 * bytes - 4
 
--- How many bits the natural field has: 2, 4 or 8 for each that the three bits count. In an index of 2 bytes a count of 7 leaves
--- it the 12 bits that there are. UEFI doesn't say what such a count means, and this is this project's own rule.
+-- How many bits the natural field has: the number in the three bits, times 2, 4 or 8 in an index of 2, 4 or 8 bytes. In
+-- an index of 2 bytes a 7 gives it the 12 bits that there are. UEFI doesn't say what this 7 means: it is this project's
+-- own rule.
 unfoldable pub natural_bits : ℕ → ℕ → ℕ
 natural_bits bytes raw = min (fields_end bytes) (bytes * bits_between (fields_end bytes) (fields_end bytes + 3) raw)
 

@@ -21,7 +21,8 @@ UnsignedDivisionsFit = (wide : Bool) (a b : ℕ) → low_bits (width wide) b ≢
 -- What MOD leaves is nearer to 0 than the divisor, each read with its sign.
 abbrev pub RemaindersAreSmall : Type 0
 RemaindersAreSmall = (wide : Bool) (a b : ℕ) → low_bits (width wide) b ≢ 0 →
-    unsigned_abs (signed (width wide) (result_of Mod wide a b)) < unsigned_abs (signed (width wide) (low_bits (width wide) b))
+    unsigned_abs (signed (width wide) (result_of Mod wide a b))
+    < unsigned_abs (signed (width wide) (low_bits (width wide) b))
 
 -- The least number divided by -1 gives the least number, and leaves 0.
 abbrev pub LeastByMinusOne : Type 0
@@ -31,7 +32,8 @@ LeastByMinusOne = (wide : Bool) →
 
 -- NEG gives what is 0 together with operand 2.
 abbrev pub NegativesCancel : Type 0
-NegativesCancel = (wide : Bool) (a b : ℕ) → low_bits (width wide) (result_of Neg wide a b + low_bits (width wide) b) ≡ 0
+NegativesCancel = (wide : Bool) (a b : ℕ) →
+    low_bits (width wide) (result_of Neg wide a b + low_bits (width wide) b) ≡ 0
 
 -- A count of the width or more leaves 0, and of a signed number its sign in each bit.
 abbrev pub CountsPastTheWidth : Type 0

@@ -7,11 +7,11 @@ abbrev pub width : Bool → ℕ
 width true = 64
 width false = 32
 
--- the low bits of a number, so many as are said first
+-- the low `bits` bits of a number
 abbrev pub low_bits : ℕ → ℕ → ℕ
 low_bits bits n = n % 2 ^ bits
 
--- A number of so many bits, read with a sign (two's complement): from half of the range on, 2^bits less than without.
+-- A number below 2^bits, read with a sign (two's complement): from half of the range on it counts 2^bits less.
 unfoldable pub signed : ℕ → ℕ → ℤ
 signed bits n = if nat_lt n (2 ^ (bits - 1)) then pos n else pos n -ℤ pos (2 ^ bits)
 

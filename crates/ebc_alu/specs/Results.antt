@@ -10,8 +10,8 @@ use Rattle.ebc_alu.specs.Reading.{width, low_bits, signed, reduced}
 unfoldable pub complement : ℕ → ℕ → ℕ
 complement bits b = 2 ^ bits - 1 - b
 
--- ADD. That sums, differences and products are cut to their low bits is this project's own rule: UEFI doesn't say what becomes of
--- a result that is too large.
+-- ADD. That sums, differences and products keep their low bits is this project's own rule: UEFI doesn't say what
+-- becomes of a result that is too large.
 unfoldable pub sum_of : ℕ → ℕ → ℕ → ℕ
 sum_of bits a b = low_bits bits (a + b)
 
@@ -28,24 +28,24 @@ unfoldable pub signed_product : ℕ → ℕ → ℕ → ℕ
 signed_product bits a b = reduced bits (signed bits a *ℤ signed bits b)
 
 -- DIVU
-unfoldable pub quotient : ℕ → ℕ → ℕ
+abbrev pub quotient : ℕ → ℕ → ℕ
 quotient a b = a / b
 
--- DIV cuts the quotient towards 0. The least number divided by -1 is one more than the greatest number; that it comes out as the
--- least one is this project's own rule.
+-- DIV cuts the quotient towards 0. The least number divided by -1 would be one more than the greatest; that the result
+-- is the least number, by its low bits, is this project's own rule.
 unfoldable pub signed_quotient : ℕ → ℕ → ℕ → ℕ
 signed_quotient bits a b = reduced bits (int_div (signed bits a) (signed bits b))
 
 -- MODU
-unfoldable pub remainder : ℕ → ℕ → ℕ
+abbrev pub remainder : ℕ → ℕ → ℕ
 remainder a b = a % b
 
 -- MOD: what DIV leaves, with the dividend's sign
 unfoldable pub signed_remainder : ℕ → ℕ → ℕ → ℕ
 signed_remainder bits a b = reduced bits (int_rem (signed bits a) (signed bits b))
 
--- SHL multiplies by 2^b, SHR divides by it, and ASHR divides the signed number by it; both quotients are rounded down. So a count
--- of the width or more leaves 0, or the sign: UEFI doesn't say what such a count does, and this is this project's own rule.
+-- SHL multiplies by 2^b. SHR divides by 2^b, and ASHR divides the signed number; both round down. So a count of the
+-- width or more leaves 0, or the sign. UEFI doesn't say what such a count does: it is this project's own rule.
 unfoldable pub left_shift : ℕ → ℕ → ℕ → ℕ
 left_shift bits a b = low_bits bits (a * 2 ^ b)
 
@@ -59,7 +59,7 @@ signed_right_shift bits a b = reduced bits (int_div_euclid (signed bits a) (pos 
 unfoldable pub extension : ℕ → ℕ → ℕ → ℕ
 extension from bits b = reduced bits (signed from (low_bits from b))
 
--- each operation on operands of so many bits
+-- the result of each operation on operands of `bits` bits
 abbrev pub value_of : AluOp → ℕ → ℕ → ℕ → ℕ
 value_of Not bits a b = complement bits b
 value_of Neg bits a b = difference bits 0 b

@@ -4,7 +4,7 @@ use Rattle.mm_base.specs.declared.operation.CmpOp.{CmpOp}
 use Rattle.mm_base.specs.declared.operation.CmpOp.TheVariants.{Equal, LessOrEqual, GreaterOrEqual, UnsignedLessOrEqual, UnsignedGreaterOrEqual}
 use Rattle.ebc_alu.specs.Reading.{width, low_bits, signed}
 
--- each test of operands of so many bits
+-- each test of operands of `bits` bits
 abbrev pub is_so : CmpOp → ℕ → ℕ → ℕ → Bool
 is_so Equal bits a b = a == b
 is_so LessOrEqual bits a b = int_le (signed bits a) (signed bits b)

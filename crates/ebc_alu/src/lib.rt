@@ -1,5 +1,6 @@
-//! Floor: byte code. The arithmetic of EFI Byte Code (UEFI 2.10, chapter 22): results, comparisons and natural indexes are the whole
-//! numbers that the definitions name, modulo 2^64 or 2^32. It never touches a register, an instruction's bytes or memory.
+//! Floor: byte code. Results, comparisons and natural indexes of EFI Byte Code (UEFI 2.10, chapter 22) are the whole
+//! numbers that their definitions name, modulo 2^64 or 2^32. This crate never touches a register, an instruction's
+//! bytes or memory.
 #![tactic(auto)]
 
 mod bits;
