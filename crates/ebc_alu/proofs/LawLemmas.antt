@@ -4,18 +4,48 @@ use Rattle.std.specs.Int.{Width, cast_signed, cast_unsigned, int_wrap, int_div_e
 use Rattle.std.proofs.lemmas.Int.{ints, quot-rem, rem_below, fits_signed_from_abs, int_wrap_fits, wrapping_add-bits, wrapping_mul-bits, int_wrap-add_left, int_wrap-add_right, int_wrap-mul_left}
 use Rattle.std.proofs.lemmas.Bool.{and_parts, and_from}
 use Rattle.std.proofs.lemmas.Bool.Decides.{nat_tests, same_from_decides, Decides-eqb, Decides-like}
-use Rattle.std.proofs.lemmas.Nat.{shr_below}
-use Rattle.std.proofs.Math.Nat.{div-add-mod', mod-add-mod, mod_self, zero-mod, mul-add-div_right, mul-add-mod_self_right}
+use Rattle.std.proofs.lemmas.Nat.{shr_below, and_le_l, or_lt, xor_lt}
+use Rattle.std.proofs.Math.Nat.{div-le_self, mod-le, div-add-mod', mod-add-mod, mod_self, zero-mod, mul-add-div_right, mul-add-mod_self_right}
 use lib.Signed.{mag}
 use mir.Val.{bits}
+use Rattle.mm_base.specs.declared.operation.AluOp.{AluOp}
+use Rattle.mm_base.specs.declared.operation.AluOp.TheVariants.{Not, Neg, Add, Sub, Mul, Mulu, Div, Divu, Mod, Modu, And, Or, Xor, Shl, Shr, Ashr, ExtendByte, ExtendWord, ExtendDouble}
 use Rattle.ebc_alu.specs.Reading.{width, low_bits, signed, reduced}
-use Rattle.ebc_alu.specs.Results.{difference, signed_quotient, signed_remainder, left_shift, right_shift, signed_right_shift}
+use Rattle.ebc_alu.specs.Results.{complement, sum_of, difference, product_of, signed_product, signed_quotient, signed_remainder, left_shift, right_shift, signed_right_shift, extension, value_of}
 use Rattle.ebc_alu.specs.Index.{distance, offset_of}
-use Rattle.ebc_alu.specs.Laws.{SignedDivisionsFit, UnsignedDivisionsFit, RemaindersAreSmall, LeastByMinusOne, NegativesCancel, CountsPastTheWidth, ComparisonsAreTotal, SignsCancel}
+use Rattle.ebc_alu.specs.Laws.{ResultsFit, SignedDivisionsFit, UnsignedDivisionsFit, RemaindersAreSmall, LeastByMinusOne, NegativesCancel, CountsPastTheWidth, ComparisonsAreTotal, SignsCancel}
 use Rattle.ebc_alu.proofs.ReadingLemmas.{signed-cast, signed-fits, signed-fits_64, reduced-lt, reduced_is, reduced-signed, low-lt}
 use Rattle.ebc_alu.proofs.SumLemmas.{same_from_cast}
 use Rattle.ebc_alu.proofs.ShiftLemmas.{past-left, past-right}
 use Rattle.ebc_alu.proofs.IndexLemmas.{few_bytes, distance-is, distance-lt, offset-plus, offset-minus}
+
+-- ---- results
+module _ (bits a b : ℕ) (p : a < 2 ^ bits) (q : b < 2 ^ bits) where
+  value-lt : (op : AluOp) → value_of op bits a b < 2 ^ bits
+  unfolding complement sum_of difference product_of signed_product signed_quotient signed_remainder
+      left_shift right_shift signed_right_shift extension
+  value-lt Not = omega (arith, pow_pos bits)
+  value-lt Neg = reduced-lt bits _
+  value-lt Add = mod-lt (a + b) (pow_pos bits)
+  value-lt Sub = reduced-lt bits _
+  value-lt Mul = reduced-lt bits _
+  value-lt Mulu = mod-lt (a * b) (pow_pos bits)
+  value-lt Div = reduced-lt bits _
+  value-lt Divu = omega (arith, div-le_self a b)
+  value-lt Mod = reduced-lt bits _
+  value-lt Modu = omega (arith, mod-le a b)
+  value-lt And = omega (arith, and_le_l a b)
+  value-lt Or = or_lt bits a b p q
+  value-lt Xor = xor_lt bits a b p q
+  value-lt Shl = mod-lt (a * 2 ^ b) (pow_pos bits)
+  value-lt Shr = omega (arith, div-le_self a (2 ^ b))
+  value-lt Ashr = reduced-lt bits _
+  value-lt ExtendByte = reduced-lt bits _
+  value-lt ExtendWord = reduced-lt bits _
+  value-lt ExtendDouble = reduced-lt bits _
+
+pub results_fit : ResultsFit
+results_fit op wide a b = value-lt (width wide) _ _ (low-lt wide a) (low-lt wide b) op
 
 -- ---- divisions
 module _ (v : Width) (a b : ℕ) (p : a < 2 ^ bits v) (q : b < 2 ^ bits v) where

@@ -20,13 +20,15 @@ module _ (wide : Bool) (a b : ℕ) (p : a < 2 ^ width wide) (q : b < 2 ^ width w
       by : (n : ℕ) → low_bits (width wide) n ≡ reduced (width wide) (signed (width wide) b) → 0 < n
       by n e = omega (arith, e ∙ reduced-signed (width wide) b q)
 
-  pub quotient-is : (z : ℤ) → z ≡ int_wrapping_div w64 (signed (width wide) a) (signed (width wide) b) → reduced (width wide) z ≡ signed_quotient (width wide) a b
+  pub quotient-is : (z : ℤ) → z ≡ int_wrapping_div w64 (signed (width wide) a) (signed (width wide) b)
+      → reduced (width wide) z ≡ signed_quotient (width wide) a b
   unfolding signed_quotient
   quotient-is z e =
       let f = signed-fits_64 wide a p in
       let small = unsigned_abs-div (signed (width wide) a) (signed (width wide) b) in
       ap (reduced (width wide)) e ∙ reduced-cast wide (int_div (signed (width wide) a) (signed (width wide) b)) (omega (arith, ints))
 
-  pub remainder-is : (z : ℤ) → z ≡ int_rem (signed (width wide) a) (signed (width wide) b) → reduced (width wide) z ≡ signed_remainder (width wide) a b
+  pub remainder-is : (z : ℤ) → z ≡ int_rem (signed (width wide) a) (signed (width wide) b)
+      → reduced (width wide) z ≡ signed_remainder (width wide) a b
   unfolding signed_remainder
   remainder-is z e = ap (reduced (width wide)) e

@@ -13,7 +13,8 @@ abbrev pub machine_width : Bool → Width
 machine_width true = w64
 machine_width false = w32
 
-either : (half whole n : ℕ) (t : Bool) → ltb n half ≡ t → n < whole → cond t (pos n) (pos n -ℤ pos whole) ≡ sel t (pos n) (negsuc (whole - suc n))
+either : (half whole n : ℕ) (t : Bool) → ltb n half ≡ t → n < whole
+    → cond t (pos n) (pos n -ℤ pos whole) ≡ sel t (pos n) (negsuc (whole - suc n))
 either half whole n true e h = refl
 either half whole n false e h = omega (arith, ints)
 
@@ -57,9 +58,6 @@ unfolding reduced
 reduced-lt k (pos a) = mod-lt a (pow_pos k)
 reduced-lt k (negsuc a) = omega (arith, pow_pos k)
 
-pub reduced-lt_64 : (wide : Bool) (z : ℤ) → reduced (width wide) z < 2 ^ width wide
-reduced-lt_64 wide z = reduced-lt (width wide) z
-
 pub reduced-signed : (k n : ℕ) → n < 2 ^ k → reduced k (signed k n) ≡ n
 unfolding signed
 reduced-signed k n h = by (ltb n (2 ^ (k - 1))) refl
@@ -90,7 +88,8 @@ cast-lt (pos n) h = h
 cast-lt (negsuc n) h = omega arith
 
 -- to go through 64 bits changes nothing
-pub reduced-cast : (wide : Bool) (z : ℤ) → unsigned_abs z < 2 ^ 64 → reduced (width wide) (cast_signed w64 (cast_unsigned w64 z)) ≡ reduced (width wide) z
+pub reduced-cast : (wide : Bool) (z : ℤ) → unsigned_abs z < 2 ^ 64
+    → reduced (width wide) (cast_signed w64 (cast_unsigned w64 z)) ≡ reduced (width wide) z
 reduced-cast wide z h =
     let there = low-cast_fits wide (cast_signed w64 (cast_unsigned w64 z)) (omega (arith, ints)) in
     let back = of_z-to_z w64 (cast_unsigned w64 z) (cast-lt z h) in

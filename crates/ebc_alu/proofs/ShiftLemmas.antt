@@ -55,7 +55,8 @@ floor-is (negsuc a) b f =
     ap negsuc (capped_63 (λ n. a / 2 ^ n) b (λ le. past-right a 63 b f.sfits le ∙ sym (past-right a 63 63 f.sfits (omega arith))))
 
 module _ (wide : Bool) (a b c : ℕ) (p : a < 2 ^ width wide) (count : c ≡ min b 64) where
-  pub signed_right-is : (z : ℤ) → z ≡ int_shr (signed (width wide) a) (min c 63) → reduced (width wide) z ≡ signed_right_shift (width wide) a b
+  pub signed_right-is : (z : ℤ) → z ≡ int_shr (signed (width wide) a) (min c 63)
+      → reduced (width wide) z ≡ signed_right_shift (width wide) a b
   unfolding signed_right_shift
   signed_right-is z e =
       ap (reduced (width wide)) (e ∙ ap (λ n. int_shr (signed (width wide) a) (min n 63)) count

@@ -1,11 +1,16 @@
 -- Laws of byte code's arithmetic, for operands and indexes of any value.
 use Rattle.std.specs.Prelude.{◌≡◌, ◌≢◌, ℕ, ◌+◌, ◌-◌, ◌*◌, ◌^◌, ◌<◌, ◌≤◌, Bool, true, false, ◌&&◌, ◌||◌, ◌⊎◌, if◌then◌else◌, pos, unsigned_abs, int_lt}
+use Rattle.mm_base.specs.declared.operation.AluOp.{AluOp}
 use Rattle.mm_base.specs.declared.operation.AluOp.TheVariants.{Neg, Div, Divu, Mod, Modu, Shl, Shr, Ashr}
 use Rattle.mm_base.specs.declared.operation.CmpOp.TheVariants.{Equal, LessOrEqual, GreaterOrEqual, UnsignedLessOrEqual, UnsignedGreaterOrEqual}
 use Rattle.ebc_alu.specs.Reading.{width, low_bits, signed}
 use Rattle.ebc_alu.specs.Results.{result_of}
 use Rattle.ebc_alu.specs.Tests.{test_of}
 use Rattle.ebc_alu.specs.Index.{offset_of}
+
+-- Each result fits the operation's width: a 32-bit operation clears the rest.
+abbrev pub ResultsFit : Type 0
+ResultsFit = (op : AluOp) (wide : Bool) (a b : ℕ) → result_of op wide a b < 2 ^ width wide
 
 -- DIV times the divisor and MOD together are the dividend again, modulo 2^64 or 2^32.
 abbrev pub SignedDivisionsFit : Type 0

@@ -7,7 +7,7 @@ use mm_base::CmpOp;
 use crate::reading::{operand, to_signed};
 
 /// Whether a comparison holds of its operands (UEFI 2.10, section 22.8, CMP and CMPI): of all 64 bits where it is wide,
-/// else of the low 32 bits of both. A few machine operations; it takes no memory.
+/// else of the low 32 bits of both. A few machine operations; takes no memory.
 #[inline]
 pub fn compare(op: CmpOp, wide: bool, a: u64, b: u64) -> bool
     ensures { result ≡ test_of op wide a b }

@@ -22,7 +22,7 @@ fn sum_of_fields(raw: u64, end: u32, natural: u32) -> u64
 }
 
 /// The offset in bytes that a natural index of 2, 4 or 8 bytes stands for, modulo 2^64, where a natural unit has 8
-/// bytes (UEFI 2.10, section 22.4). A few machine operations; it takes no memory.
+/// bytes (UEFI 2.10, section 22.4). A few machine operations; takes no memory.
 #[inline]
 pub fn index_value(raw: u64, bytes: u8) -> u64
     requires width { (bytes ≡ 2) ⊎ ((bytes ≡ 4) ⊎ (bytes ≡ 8)) }

@@ -1,5 +1,10 @@
 //! Laws of the arithmetic, for operands and indexes of any value.
-ghost use Rattle.ebc_alu.specs.Laws.{SignedDivisionsFit, UnsignedDivisionsFit, RemaindersAreSmall, LeastByMinusOne, NegativesCancel, CountsPastTheWidth, ComparisonsAreTotal, SignsCancel};
+ghost use Rattle.ebc_alu.specs.Laws.{ResultsFit, SignedDivisionsFit, UnsignedDivisionsFit, RemaindersAreSmall, LeastByMinusOne, NegativesCancel, CountsPastTheWidth, ComparisonsAreTotal, SignsCancel};
+
+/// A result is below 2^64, or below 2^32 where the operation is not wide.
+pub fn results_fit()
+    ensures { ResultsFit }
+{}
 
 /// Quotient and remainder give the dividend back, and the remainder is smaller than the divisor.
 pub fn divisions_fit()

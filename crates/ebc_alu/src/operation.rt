@@ -26,7 +26,7 @@ fn check_divisor(divisor: u64) -> Result<(), DivideError>
 
 /// What an arithmetic instruction computes of its operands (UEFI 2.10, section 22.8): on all 64 bits where it is wide,
 /// else on the low 32 bits of both, with a result below 2^32. NOT, NEG and EXTND use `b` alone. DivideError comes
-/// exactly where the divisor of DIV, DIVU, MOD or MODU is 0 in those bits. A few machine operations; it takes no memory.
+/// exactly where the divisor of DIV, DIVU, MOD or MODU is 0 in those bits. A few machine operations; takes no memory.
 #[inline]
 pub fn alu(op: AluOp, wide: bool, a: u64, b: u64) -> Result<u64, DivideError>
     ensures ok { IfOk result (λ value. value ≡ result_of op wide a b) }
