@@ -1,8 +1,8 @@
 -- Natural indexes: the fields by shifts and masks.
-use Rattle.std.proofs.Common.{◌≡◌, ◌⊎◌, ℕ, ◌+◌, ◌-◌, ◌*◌, ◌/◌, ◌%◌, ◌^◌, ◌<◌, ◌≤◌, min, cond, eqb, ℤ, pos, negsuc, ◌*ℤ◌, refl, sym, ◌∙◌, ap, subst, arith, ⊎_elim, eq-eqb, ne_eqb, mod-lt, mod-eq_of_lt, pow_pos, pow_mono, pow-add, shr-shr, div-one, div-le_self}
+use Rattle.std.proofs.Common.{◌≡◌, ◌⊎◌, ℕ, ◌+◌, ◌-◌, ◌*◌, ◌/◌, ◌%◌, ◌^◌, ◌<◌, ◌≤◌, min, cond, pos, negsuc, ◌*ℤ◌, sym, ◌∙◌, ap, subst, arith, ⊎_elim, eq-eqb, ne_eqb, mod-lt, mod-eq_of_lt, pow_pos, pow_mono, shr-shr, div-one, div-le_self}
 use Rattle.std.proofs.lemmas.Int.{ints}
-use Rattle.std.proofs.lemmas.Nat.{field_of, shr_below, one_shl, and_mask}
-use Rattle.std.proofs.Math.Nat.{min_comm, mod-le, sub-zero}
+use Rattle.std.proofs.lemmas.Nat.{field_of, shr_below}
+use Rattle.std.proofs.Math.Nat.{min_comm, sub-zero}
 use Rattle.ebc_alu.specs.Reading.{reduced}
 use Rattle.ebc_alu.specs.Index.{bits_between, fields_end, natural_bits, distance, sign_of, offset_of}
 use Rattle.ebc_alu.proofs.ReadingLemmas.{reduced_is}

@@ -1,6 +1,6 @@
 -- The laws of the arithmetic.
-use Rattle.std.proofs.Common.{◌≡◌, ◌≢◌, ◌⊎◌, ℕ, zero, suc, ◌+◌, ◌-◌, ◌*◌, ◌/◌, ◌%◌, ◌^◌, ◌<◌, ◌≤◌, min, Bool, true, false, cond, eqb, ltb, leb, ◌&&◌, ◌||◌, ℤ, pos, negsuc, ◌-ℤ◌, ◌+ℤ◌, ◌*ℤ◌, unsigned_abs, int_lt, int_le, int_div, int_rem, Decides, refl, sym, ◌∙◌, ap, subst, arith, ⊎_elim, inl, inr, w32, w64, mod-lt, pow_pos, pow-add, FitsSigned, le-ltb}
-use Rattle.std.specs.Int.{Width, cast_signed, cast_unsigned, int_wrap, int_div_euclid}
+use Rattle.std.proofs.Common.{◌≡◌, ℕ, zero, suc, ◌+◌, ◌-◌, ◌*◌, ◌/◌, ◌%◌, ◌^◌, ◌<◌, ◌≤◌, min, Bool, true, false, cond, eqb, leb, ◌&&◌, ◌||◌, ℤ, pos, negsuc, ◌-ℤ◌, ◌+ℤ◌, ◌*ℤ◌, unsigned_abs, int_lt, int_le, int_div, int_rem, Decides, refl, sym, ◌∙◌, ap, subst, arith, w32, w64, mod-lt, pow_pos, pow-add, FitsSigned, le-ltb}
+use Rattle.std.specs.Int.{Width, cast_signed, int_wrap, int_div_euclid}
 use Rattle.std.proofs.lemmas.Int.{ints, quot-rem, rem_below, fits_signed_from_abs, int_wrap_fits, wrapping_add-bits, wrapping_mul-bits, int_wrap-add_left, int_wrap-add_right, int_wrap-mul_left}
 use Rattle.std.proofs.lemmas.Bool.{and_parts, and_from}
 use Rattle.std.proofs.lemmas.Bool.Decides.{nat_tests, same_from_decides, Decides-eqb, Decides-like}
@@ -14,7 +14,7 @@ use Rattle.ebc_alu.specs.Reading.{width, low_bits, signed, reduced}
 use Rattle.ebc_alu.specs.Results.{complement, sum_of, difference, product_of, signed_product, signed_quotient, signed_remainder, left_shift, right_shift, signed_right_shift, extension, value_of}
 use Rattle.ebc_alu.specs.Index.{distance, offset_of}
 use Rattle.ebc_alu.specs.Laws.{ResultsFit, SignedDivisionsFit, UnsignedDivisionsFit, RemaindersAreSmall, LeastByMinusOne, NegativesCancel, CountsPastTheWidth, ComparisonsAreTotal, SignsCancel}
-use Rattle.ebc_alu.proofs.ReadingLemmas.{signed-cast, signed-fits, signed-fits_64, reduced-lt, reduced_is, reduced-signed, low-lt}
+use Rattle.ebc_alu.proofs.ReadingLemmas.{signed-cast, signed-fits, reduced-lt, reduced_is, reduced-signed, low-lt}
 use Rattle.ebc_alu.proofs.SumLemmas.{same_from_cast}
 use Rattle.ebc_alu.proofs.ShiftLemmas.{past-left, past-right}
 use Rattle.ebc_alu.proofs.IndexLemmas.{few_bytes, distance-is, distance-lt, offset-plus, offset-minus}
@@ -158,9 +158,10 @@ sign-fits false n h = let f = signed-fits w32 n h in omega (arith, f.sfits)
 pub counts_past_the_width : CountsPastTheWidth
 unfolding left_shift right_shift signed_right_shift
 counts_past_the_width wide a b le = (
-    past-left (low_bits (width wide) a) (width wide) (low_bits (width wide) b) le,
-    past-right (low_bits (width wide) a) (width wide) (low_bits (width wide) b) (low-lt wide a) le,
-    fill (width wide) (low_bits (width wide) b) (signed (width wide) (low_bits (width wide) a)) (sign-fits wide _ (low-lt wide a)) le)
+  past-left (low_bits (width wide) a) (width wide) (low_bits (width wide) b) le,
+  past-right (low_bits (width wide) a) (width wide) (low_bits (width wide) b) (low-lt wide a) le,
+  fill (width wide) (low_bits (width wide) b) (signed (width wide) (low_bits (width wide) a)) (sign-fits wide _ (low-lt wide a)) le,
+)
 
 -- ---- comparisons
 one_at_most : (m n : ℤ) → (int_le m n || int_le n m) ≡ true
@@ -197,10 +198,11 @@ unsigned_both a b = grind (arith, nat_tests)
 
 pub comparisons_are_total : ComparisonsAreTotal
 comparisons_are_total wide a b = (
-    one_at_most (signed (width wide) (low_bits (width wide) a)) (signed (width wide) (low_bits (width wide) b)),
-    signed_equal (width wide) _ _ (low-lt wide a) (low-lt wide b),
-    unsigned_one (low_bits (width wide) a) (low_bits (width wide) b),
-    unsigned_both (low_bits (width wide) a) (low_bits (width wide) b))
+  one_at_most (signed (width wide) (low_bits (width wide) a)) (signed (width wide) (low_bits (width wide) b)),
+  signed_equal (width wide) _ _ (low-lt wide a) (low-lt wide b),
+  unsigned_one (low_bits (width wide) a) (low_bits (width wide) b),
+  unsigned_both (low_bits (width wide) a) (low_bits (width wide) b),
+)
 
 -- ---- indexes
 module _ (bytes raw end : ℕ) (ends : end + 4 ≡ 8 * bytes) (small : end ≤ 60) (fits : raw < 2 ^ (3 + end)) where

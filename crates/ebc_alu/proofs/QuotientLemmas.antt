@@ -1,6 +1,6 @@
 -- Signed quotients and remainders, which std's wrapping division leaves.
-use Rattle.std.proofs.Common.{◌≡◌, ◌≢◌, ℕ, zero, suc, ◌+◌, ◌-◌, ◌*◌, ◌/◌, ◌%◌, ◌^◌, ◌<◌, ◌≤◌, Bool, true, false, ℤ, pos, negsuc, unsigned_abs, FitsSigned, int_div, int_rem, refl, sym, ◌∙◌, ap, subst, arith, w64, div-le_self}
-use Rattle.std.specs.Int.{cast_signed, cast_unsigned, IsNonZero, int_wrapping_div}
+use Rattle.std.proofs.Common.{◌≡◌, ℕ, suc, ◌^◌, ◌<◌, ◌≤◌, Bool, ℤ, pos, negsuc, unsigned_abs, int_div, int_rem, ◌∙◌, ap, arith, w64, div-le_self}
+use Rattle.std.specs.Int.{cast_unsigned, IsNonZero, int_wrapping_div}
 use Rattle.std.proofs.lemmas.Int.{ints}
 use Rattle.ebc_alu.specs.Reading.{width, low_bits, signed, reduced}
 use Rattle.ebc_alu.specs.Results.{signed_quotient, signed_remainder}

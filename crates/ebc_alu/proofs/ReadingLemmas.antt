@@ -1,9 +1,8 @@
 -- How std's signed numbers read as `signed` and `reduced`.
-use Rattle.std.proofs.Common.{◌≡◌, ◌≢◌, ℕ, suc, ◌+◌, ◌-◌, ◌*◌, ◌%◌, ◌^◌, ◌<◌, ◌≤◌, Bool, true, false, cond, ltb, ℤ, pos, negsuc, ◌-ℤ◌, ◌+ℤ◌, unsigned_abs, FitsSigned, refl, sym, ◌∙◌, ap, subst, arith, w8, w16, w32, w64, pow_pos, mod-lt, mod-eq_of_lt, ltb-true, ltb-false}
-use Rattle.std.specs.Int.{Width, w128, cast_signed, cast_unsigned, int_rem_euclid}
+use Rattle.std.proofs.Common.{◌≡◌, ℕ, suc, ◌-◌, ◌*◌, ◌%◌, ◌^◌, ◌<◌, ◌≤◌, Bool, true, false, cond, ltb, ℤ, pos, negsuc, ◌-ℤ◌, ◌+ℤ◌, unsigned_abs, FitsSigned, refl, sym, ◌∙◌, ap, subst, arith, w8, w16, w32, w64, pow_pos, mod-lt, mod-eq_of_lt}
+use Rattle.std.specs.Int.{Width, w128, cast_signed, cast_unsigned}
 use Rattle.std.proofs.lemmas.Int.{ints, int_rem_euclid_is, of_z-to_z, to_z-of_z}
 use lib.Signed.{mag}
-use Rattle.std.proofs.Math.Nat.{mod-mod}
 use Rattle.std.proofs.Math.Pow.{mod-mod-pow}
 use mir.Val.{bits, hbits, sel}
 use Rattle.ebc_alu.specs.Reading.{width, low_bits, signed, reduced}

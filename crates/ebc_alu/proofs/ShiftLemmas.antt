@@ -1,7 +1,6 @@
 -- Shifts by any count: what one of 64 or more leaves, a machine's shift leaves too.
-use Rattle.std.proofs.Common.{◌≡◌, ℕ, suc, ◌+◌, ◌-◌, ◌*◌, ◌/◌, ◌%◌, ◌^◌, ◌<◌, ◌≤◌, min, Bool, true, false, cond, ltb, ℤ, pos, negsuc, FitsSigned, refl, sym, ◌∙◌, ap, subst, arith, ⊎_elim, w64, lt-ltb, pow_mono, pow-add, mul_assoc}
+use Rattle.std.proofs.Common.{◌≡◌, ℕ, ◌-◌, ◌*◌, ◌/◌, ◌%◌, ◌^◌, ◌<◌, ◌≤◌, min, Bool, cond, ltb, ℤ, pos, negsuc, FitsSigned, sym, ◌∙◌, ap, arith, ⊎_elim, w64, lt-ltb, pow_mono, pow-add, mul_assoc}
 use Rattle.std.specs.Int.{int_shr, int_div_euclid}
-use Rattle.std.proofs.lemmas.Int.{ints}
 use Rattle.std.proofs.lemmas.Bool.{cases_lt}
 use Rattle.std.proofs.Math.Nat.{div-eq_of_lt, mul-mod_left, min-eq_left, min-eq_right}
 use Rattle.ebc_alu.specs.Reading.{width, low_bits, signed, reduced}

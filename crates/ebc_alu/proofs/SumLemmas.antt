@@ -1,9 +1,9 @@
 -- Sums, differences, products and extensions: what the low bits of 64 are.
-use Rattle.std.proofs.Common.{◌≡◌, ℕ, ◌+◌, ◌-◌, ◌*◌, ◌%◌, ◌^◌, ◌<◌, ◌≤◌, Bool, true, false, ℤ, pos, ◌-ℤ◌, ◌*ℤ◌, refl, sym, ◌∙◌, ap, arith, w32, w64, mod-lt, pow_pos}
+use Rattle.std.proofs.Common.{◌≡◌, ℕ, ◌+◌, ◌-◌, ◌*◌, ◌%◌, ◌^◌, ◌<◌, Bool, true, false, pos, ◌-ℤ◌, ◌*ℤ◌, sym, ◌∙◌, ap, arith, w32, w64, mod-lt, pow_pos}
 use Rattle.std.specs.Int.{Width, cast_signed, cast_unsigned, int_wrap}
 use Rattle.std.proofs.lemmas.Int.{ints, of_z-to_z, wrapping_mul-bits}
 use mir.Val.{bits}
-use Rattle.ebc_alu.specs.Reading.{width, low_bits, signed, reduced}
+use Rattle.ebc_alu.specs.Reading.{width, low_bits, reduced}
 use Rattle.ebc_alu.specs.Results.{sum_of, difference, product_of, signed_product}
 use Rattle.ebc_alu.proofs.ReadingLemmas.{signed-cast, reduced_is, reduced-lt, low-low}
 

@@ -1,5 +1,5 @@
 -- Laws of byte code's arithmetic, for operands and indexes of any value.
-use Rattle.std.specs.Prelude.{◌≡◌, ◌≢◌, ℕ, ◌+◌, ◌-◌, ◌*◌, ◌^◌, ◌<◌, ◌≤◌, Bool, true, false, ◌&&◌, ◌||◌, ◌⊎◌, if◌then◌else◌, pos, unsigned_abs, int_lt}
+use Rattle.std.specs.Prelude.{◌≡◌, ◌≢◌, ℕ, ◌+◌, ◌-◌, ◌*◌, ◌^◌, ◌<◌, ◌≤◌, Bool, true, ◌&&◌, ◌||◌, ◌⊎◌, if◌then◌else◌, pos, unsigned_abs, int_lt}
 use Rattle.mm_base.specs.declared.operation.AluOp.{AluOp}
 use Rattle.mm_base.specs.declared.operation.AluOp.TheVariants.{Neg, Div, Divu, Mod, Modu, Shl, Shr, Ashr}
 use Rattle.mm_base.specs.declared.operation.CmpOp.TheVariants.{Equal, LessOrEqual, GreaterOrEqual, UnsignedLessOrEqual, UnsignedGreaterOrEqual}
@@ -46,7 +46,7 @@ CountsPastTheWidth = (wide : Bool) (a b : ℕ) → width wide ≤ low_bits (widt
     (result_of Shl wide a b ≡ 0)
     × (result_of Shr wide a b ≡ 0)
     × (result_of Ashr wide a b
-        ≡ (if int_lt (signed (width wide) (low_bits (width wide) a)) (pos 0) then 2 ^ width wide - 1 else 0))
+    ≡ (if int_lt (signed (width wide) (low_bits (width wide) a)) (pos 0) then 2 ^ width wide - 1 else 0))
 
 -- One of two operands is at most the other, and each is at most the other exactly where they are equal.
 abbrev pub ComparisonsAreTotal : Type 0

@@ -2,9 +2,8 @@
 ghost use Rattle.std.specs.Prelude.{◌≡◌};
 ghost use Rattle.ebc_alu.specs.Tests.{test_of};
 
-use mm_base::CmpOp;
-
 use crate::reading::{operand, to_signed};
+use mm_base::CmpOp;
 
 /// Whether a comparison holds of its operands (UEFI 2.10, section 22.8, CMP and CMPI): of all 64 bits where it is wide,
 /// else of the low 32 bits of both. A few machine operations; takes no memory.

@@ -2,14 +2,13 @@
 ghost use Rattle.std.specs.Prelude.{◌≡◌, ◌<◌, ◌↔◌, IsErr, IfOk};
 ghost use Rattle.ebc_alu.specs.Results.{result_of, IsDivisionByZero};
 
-use mm_base::AluOp;
-
 use crate::bits::invert;
 use crate::extensions::{extend_byte, extend_double, extend_word};
 use crate::quotients::{divide_signed, remainder_signed};
 use crate::reading::operand;
 use crate::shifts::{shift_left, shift_right, shift_right_signed};
 use crate::sums::{add, multiply, subtract};
+use mm_base::AluOp;
 
 /// A divisor is 0.
 #[derive(Clone, Copy, Debug, PartialEq, Eq)]
@@ -21,7 +20,11 @@ fn check_divisor(divisor: u64) -> Result<(), DivideError>
     ensures ok { IfOk result (λ _. 0 < divisor) }
     ensures zero { IsErr result ↔ (divisor ≡ 0) }
 {
-    if divisor == 0 { Err(DivideError) } else { Ok(()) }
+    if divisor == 0 {
+        Err(DivideError)
+    } else {
+        Ok(())
+    }
 }
 
 /// What an arithmetic instruction computes of its operands (UEFI 2.10, section 22.8): on all 64 bits where it is wide,

@@ -3,16 +3,31 @@ use crate::{AluOp, CmpOp, alu, compare, index_value};
 use std::test::Fail;
 
 const ALL: u64 = 0xffff_ffff_ffff_ffff;
+
 const LEAST: u64 = 0x8000_0000_0000_0000;
+
 const LEAST_32: u64 = 0x8000_0000;
+
 const ALL_32: u64 = 0xffff_ffff;
 
 /// An operation, whether it is wide, its operands and its result; None where it is a division by 0.
 type Result64 = (AluOp, bool, u64, u64, Option<u64>);
 
 const SUMS: [Result64; 26] = [
-    (AluOp::Not, true, 5, 0x0123_4567_89ab_cdef, Some(0xfedc_ba98_7654_3210)),
-    (AluOp::Not, false, 5, 0x0123_4567_89ab_cdef, Some(0x7654_3210)),
+    (
+        AluOp::Not,
+        true,
+        5,
+        0x0123_4567_89ab_cdef,
+        Some(0xfedc_ba98_7654_3210),
+    ),
+    (
+        AluOp::Not,
+        false,
+        5,
+        0x0123_4567_89ab_cdef,
+        Some(0x7654_3210),
+    ),
     (AluOp::Neg, true, 5, 1, Some(ALL)),
     (AluOp::Neg, true, 5, LEAST, Some(LEAST)),
     (AluOp::Neg, true, 5, 0, Some(0)),
@@ -25,10 +40,22 @@ const SUMS: [Result64; 26] = [
     (AluOp::Sub, true, 0, 1, Some(ALL)),
     (AluOp::Sub, false, 0, 1, Some(ALL_32)),
     (AluOp::Sub, true, 5, 3, Some(2)),
-    (AluOp::Mul, true, 0xffff_ffff_ffff_fffd, 5, Some(0xffff_ffff_ffff_fff1)),
+    (
+        AluOp::Mul,
+        true,
+        0xffff_ffff_ffff_fffd,
+        5,
+        Some(0xffff_ffff_ffff_fff1),
+    ),
     (AluOp::Mul, false, 0xffff_fffd, 5, Some(0xffff_fff1)),
     (AluOp::Mul, false, ALL_32, ALL_32, Some(1)),
-    (AluOp::Mulu, true, 0x1_0000_0001, 0x1_0000_0001, Some(0x2_0000_0001)),
+    (
+        AluOp::Mulu,
+        true,
+        0x1_0000_0001,
+        0x1_0000_0001,
+        Some(0x2_0000_0001),
+    ),
     (AluOp::Mulu, false, 0x1_0000, 0x1_0000, Some(0)),
     (AluOp::And, true, 0xc, 0xa, Some(0x8)),
     (AluOp::And, false, ALL, ALL, Some(ALL_32)),
@@ -41,11 +68,29 @@ const SUMS: [Result64; 26] = [
 
 /// -7 and 2, 7 and -2, the least number by -1, and divisors that are 0 in the bits that count.
 const QUOTIENTS: [Result64; 31] = [
-    (AluOp::Div, true, 0xffff_ffff_ffff_fff9, 2, Some(0xffff_ffff_ffff_fffd)),
+    (
+        AluOp::Div,
+        true,
+        0xffff_ffff_ffff_fff9,
+        2,
+        Some(0xffff_ffff_ffff_fffd),
+    ),
     (AluOp::Mod, true, 0xffff_ffff_ffff_fff9, 2, Some(ALL)),
-    (AluOp::Div, true, 7, 0xffff_ffff_ffff_fffe, Some(0xffff_ffff_ffff_fffd)),
+    (
+        AluOp::Div,
+        true,
+        7,
+        0xffff_ffff_ffff_fffe,
+        Some(0xffff_ffff_ffff_fffd),
+    ),
     (AluOp::Mod, true, 7, 0xffff_ffff_ffff_fffe, Some(1)),
-    (AluOp::Divu, true, 0xffff_ffff_ffff_fff9, 2, Some(0x7fff_ffff_ffff_fffc)),
+    (
+        AluOp::Divu,
+        true,
+        0xffff_ffff_ffff_fff9,
+        2,
+        Some(0x7fff_ffff_ffff_fffc),
+    ),
     (AluOp::Modu, true, 0xffff_ffff_ffff_fff9, 2, Some(1)),
     (AluOp::Div, false, 0xffff_fff9, 2, Some(0xffff_fffd)),
     (AluOp::Mod, false, 0xffff_fff9, 2, Some(ALL_32)),
@@ -108,7 +153,13 @@ const SHIFTS: [Result64; 43] = [
     (AluOp::Ashr, true, LEAST, 64, Some(ALL)),
     (AluOp::Ashr, true, LEAST, ALL, Some(ALL)),
     (AluOp::Ashr, true, 0x7fff_ffff_ffff_ffff, 64, Some(0)),
-    (AluOp::Ashr, true, 0xffff_ffff_ffff_fff9, 1, Some(0xffff_ffff_ffff_fffc)),
+    (
+        AluOp::Ashr,
+        true,
+        0xffff_ffff_ffff_fff9,
+        1,
+        Some(0xffff_ffff_ffff_fffc),
+    ),
     (AluOp::Ashr, false, LEAST_32, 0, Some(LEAST_32)),
     (AluOp::Ashr, false, LEAST_32, 31, Some(ALL_32)),
     (AluOp::Ashr, false, LEAST_32, 32, Some(ALL_32)),
@@ -117,20 +168,56 @@ const SHIFTS: [Result64; 43] = [
     (AluOp::Ashr, false, LEAST_32, ALL, Some(ALL_32)),
     (AluOp::Ashr, false, 0x7fff_ffff, 32, Some(0)),
     (AluOp::Ashr, false, 0xffff_ffff_7fff_ffff, 30, Some(1)),
-    (AluOp::Ashr, false, LEAST_32, 0x1_0000_0001, Some(0xc000_0000)),
+    (
+        AluOp::Ashr,
+        false,
+        LEAST_32,
+        0x1_0000_0001,
+        Some(0xc000_0000),
+    ),
 ];
 
 const EXTENSIONS: [Result64; 11] = [
-    (AluOp::ExtendByte, true, 5, 0x80, Some(0xffff_ffff_ffff_ff80)),
+    (
+        AluOp::ExtendByte,
+        true,
+        5,
+        0x80,
+        Some(0xffff_ffff_ffff_ff80),
+    ),
     (AluOp::ExtendByte, true, 5, 0x817f, Some(0x7f)),
     (AluOp::ExtendByte, false, 5, 0x80, Some(0xffff_ff80)),
-    (AluOp::ExtendWord, true, 5, 0x8000, Some(0xffff_ffff_ffff_8000)),
+    (
+        AluOp::ExtendWord,
+        true,
+        5,
+        0x8000,
+        Some(0xffff_ffff_ffff_8000),
+    ),
     (AluOp::ExtendWord, true, 5, 0x8000_7fff, Some(0x7fff)),
     (AluOp::ExtendWord, false, 5, 0x8000, Some(0xffff_8000)),
-    (AluOp::ExtendDouble, true, 5, LEAST_32, Some(0xffff_ffff_8000_0000)),
-    (AluOp::ExtendDouble, true, 5, 0xffff_ffff_7fff_ffff, Some(0x7fff_ffff)),
+    (
+        AluOp::ExtendDouble,
+        true,
+        5,
+        LEAST_32,
+        Some(0xffff_ffff_8000_0000),
+    ),
+    (
+        AluOp::ExtendDouble,
+        true,
+        5,
+        0xffff_ffff_7fff_ffff,
+        Some(0x7fff_ffff),
+    ),
     (AluOp::ExtendDouble, false, 5, LEAST_32, Some(LEAST_32)),
-    (AluOp::ExtendDouble, false, 5, 0xffff_ffff_7fff_ffff, Some(0x7fff_ffff)),
+    (
+        AluOp::ExtendDouble,
+        false,
+        5,
+        0xffff_ffff_7fff_ffff,
+        Some(0x7fff_ffff),
+    ),
     (AluOp::ExtendDouble, false, 5, ALL, Some(ALL_32)),
 ];
 
@@ -141,29 +228,107 @@ const TESTS: [(CmpOp, bool, u64, u64, bool); 28] = [
     (CmpOp::Equal, false, 0, 0x1_0000_0000, true),
     (CmpOp::LessOrEqual, true, 5, 5, true),
     (CmpOp::LessOrEqual, true, LEAST, 0x7fff_ffff_ffff_ffff, true),
-    (CmpOp::LessOrEqual, true, 0x7fff_ffff_ffff_ffff, LEAST, false),
+    (
+        CmpOp::LessOrEqual,
+        true,
+        0x7fff_ffff_ffff_ffff,
+        LEAST,
+        false,
+    ),
     (CmpOp::LessOrEqual, true, ALL, 0, true),
     (CmpOp::LessOrEqual, true, LEAST_32, 0x7fff_ffff, false),
     (CmpOp::LessOrEqual, false, LEAST_32, 0x7fff_ffff, true),
     (CmpOp::LessOrEqual, false, 0x7fff_ffff, LEAST_32, false),
     (CmpOp::GreaterOrEqual, true, 5, 5, true),
-    (CmpOp::GreaterOrEqual, true, LEAST, 0x7fff_ffff_ffff_ffff, false),
-    (CmpOp::GreaterOrEqual, true, 0x7fff_ffff_ffff_ffff, LEAST, true),
+    (
+        CmpOp::GreaterOrEqual,
+        true,
+        LEAST,
+        0x7fff_ffff_ffff_ffff,
+        false,
+    ),
+    (
+        CmpOp::GreaterOrEqual,
+        true,
+        0x7fff_ffff_ffff_ffff,
+        LEAST,
+        true,
+    ),
     (CmpOp::GreaterOrEqual, true, ALL, 0, false),
     (CmpOp::GreaterOrEqual, false, LEAST_32, 0x7fff_ffff, false),
     (CmpOp::GreaterOrEqual, false, 0x7fff_ffff, LEAST_32, true),
     (CmpOp::UnsignedLessOrEqual, true, 5, 5, true),
-    (CmpOp::UnsignedLessOrEqual, true, LEAST, 0x7fff_ffff_ffff_ffff, false),
-    (CmpOp::UnsignedLessOrEqual, true, 0x7fff_ffff_ffff_ffff, LEAST, true),
-    (CmpOp::UnsignedLessOrEqual, false, LEAST_32, 0x7fff_ffff, false),
-    (CmpOp::UnsignedLessOrEqual, false, 0xffff_ffff_0000_0000, 1, true),
-    (CmpOp::UnsignedLessOrEqual, true, 0xffff_ffff_0000_0000, 1, false),
+    (
+        CmpOp::UnsignedLessOrEqual,
+        true,
+        LEAST,
+        0x7fff_ffff_ffff_ffff,
+        false,
+    ),
+    (
+        CmpOp::UnsignedLessOrEqual,
+        true,
+        0x7fff_ffff_ffff_ffff,
+        LEAST,
+        true,
+    ),
+    (
+        CmpOp::UnsignedLessOrEqual,
+        false,
+        LEAST_32,
+        0x7fff_ffff,
+        false,
+    ),
+    (
+        CmpOp::UnsignedLessOrEqual,
+        false,
+        0xffff_ffff_0000_0000,
+        1,
+        true,
+    ),
+    (
+        CmpOp::UnsignedLessOrEqual,
+        true,
+        0xffff_ffff_0000_0000,
+        1,
+        false,
+    ),
     (CmpOp::UnsignedGreaterOrEqual, true, 5, 5, true),
-    (CmpOp::UnsignedGreaterOrEqual, true, LEAST, 0x7fff_ffff_ffff_ffff, true),
-    (CmpOp::UnsignedGreaterOrEqual, true, 0x7fff_ffff_ffff_ffff, LEAST, false),
-    (CmpOp::UnsignedGreaterOrEqual, false, LEAST_32, 0x7fff_ffff, true),
-    (CmpOp::UnsignedGreaterOrEqual, false, 0xffff_ffff_0000_0000, 1, false),
-    (CmpOp::UnsignedGreaterOrEqual, true, 0xffff_ffff_0000_0000, 1, true),
+    (
+        CmpOp::UnsignedGreaterOrEqual,
+        true,
+        LEAST,
+        0x7fff_ffff_ffff_ffff,
+        true,
+    ),
+    (
+        CmpOp::UnsignedGreaterOrEqual,
+        true,
+        0x7fff_ffff_ffff_ffff,
+        LEAST,
+        false,
+    ),
+    (
+        CmpOp::UnsignedGreaterOrEqual,
+        false,
+        LEAST_32,
+        0x7fff_ffff,
+        true,
+    ),
+    (
+        CmpOp::UnsignedGreaterOrEqual,
+        false,
+        0xffff_ffff_0000_0000,
+        1,
+        false,
+    ),
+    (
+        CmpOp::UnsignedGreaterOrEqual,
+        true,
+        0xffff_ffff_0000_0000,
+        1,
+        true,
+    ),
 ];
 
 /// An index, how many bytes it has, and its value.
