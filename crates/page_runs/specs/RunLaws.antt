@@ -2,7 +2,7 @@
 use Rattle.std.specs.Prelude.{◌≡◌, ℕ, ◌+◌, ◌<◌, ◌≤◌, Bool, true, false, List, length}
 use Rattle.page_runs.specs.Runs.{is_taken, IsRun, IsLowestRun, AreTaken, with_run}
 
--- From the first list to the second, this many pages from a start on become taken, or free, and each other page stays.
+-- From the first list to the second, n pages from a start on become taken, or free, and each other page stays.
 pub record ChangesRun (value : Bool) (start pages : ℕ) (old new : List Bool) : Type 0 where
   pub as_many : length new ≡ length old
   pub changed : (page : ℕ) → start ≤ page → page < start + pages → is_taken new page ≡ value
@@ -16,7 +16,7 @@ ChangesTheseAlone =
     → start + pages ≤ length taken
     → ChangesRun value start pages taken (with_run value start pages taken)
 
--- Two lowest runs of as many pages start at the same page.
+-- Two lowest runs of n pages start at the same page.
 abbrev pub OneIsLowest : Type 0
 OneIsLowest =
     (taken : List Bool) (pages one other : ℕ)
@@ -27,7 +27,9 @@ OneIsLowest =
 -- After a run was taken its pages are all taken, so that it may be given.
 abbrev pub TakenMayBeGiven : Type 0
 TakenMayBeGiven =
-    (taken : List Bool) (pages start : ℕ) → IsRun taken pages start → AreTaken (with_run true start pages taken) start pages
+    (taken : List Bool) (pages start : ℕ)
+    → IsRun taken pages start
+    → AreTaken (with_run true start pages taken) start pages
 
 -- A run that was taken and given back leaves all as before.
 abbrev pub ComesBack : Type 0
@@ -39,7 +41,9 @@ ComesBack =
 -- What was given can be had again: after it was given, a free run starts there.
 abbrev pub GivenIsFree : Type 0
 GivenIsFree =
-    (taken : List Bool) (start pages : ℕ) → AreTaken taken start pages → IsRun (with_run false start pages taken) pages start
+    (taken : List Bool) (start pages : ℕ)
+    → AreTaken taken start pages
+    → IsRun (with_run false start pages taken) pages start
 
 -- A run that is free after another was taken has no page of that one.
 abbrev pub ShareNoPage : Type 0

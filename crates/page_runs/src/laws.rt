@@ -6,7 +6,7 @@ pub fn page_by_page()
     ensures { ChangesTheseAlone }
 {}
 
-/// At most one run of so many pages is the lowest.
+/// At most one run of n pages is the lowest.
 pub fn one_lowest()
     ensures { OneIsLowest }
 {}

@@ -23,7 +23,8 @@ impl Model for RunMap {
 }
 
 impl RunMap {
-    /// So many pages, all free. It takes all the memory that it will ever need, a byte a page, and costs one step a page.
+    /// Pages 0 to `pages` - 1, all free. It takes all the memory that it will ever need, a byte a page, and costs one step a
+    /// page.
     pub fn new(alloc: Global, pages: u32) -> Result<RunMap, NoMemory>
         ensures { IfOk result (λ map. map ≡ replicate pages false) }
     {
@@ -57,12 +58,8 @@ impl RunMap {
         requires { AreTaken self.old start pages }
         ensures { self.new ≡ with_run false start pages self.old }
     {
-        mark(
-            self.taken.as_mut_slice(),
-            start as usize,
-            pages as usize,
-            false,
-        );
+        let start = start as usize;
+        mark(self.taken.as_mut_slice(), start, pages as usize, false);
     }
 
     /// Whether `pages` pages from `start` on are there and all taken: the test of what `give` requires. It costs at most one
@@ -70,7 +67,7 @@ impl RunMap {
     pub fn all_taken(&self, start: u32, pages: u32) -> bool
         ensures { IsTrue result ↔ AreTaken self.now start pages }
     {
-        are_taken(self.taken.as_slice(), start as usize, pages as usize)
+        all_set(self.taken.as_slice(), start as usize, pages as usize)
     }
 }
 
@@ -100,7 +97,7 @@ fn mark(taken: &mut [bool], start: usize, pages: usize, value: bool)
 }
 
 /// Whether `pages` pages from `start` on are there and all taken.
-fn are_taken(taken: &[bool], start: usize, pages: usize) -> bool
+fn all_set(taken: &[bool], start: usize, pages: usize) -> bool
     requires { start + pages < 2 ^ 64 }
     ensures { IsTrue result ↔ AreTaken taken.now start pages }
 {

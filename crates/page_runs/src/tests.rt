@@ -27,6 +27,18 @@ impl Draws {
     }
 }
 
+/// A map of `pages` free pages. It has no clause, nor have the two below it: so a test is proved without working out its flags.
+fn made(alloc: Global, pages: u32) -> Result<RunMap, NoMemory> {
+    RunMap::new(alloc, pages)
+}
+
+/// What `take` answers.
+fn takes(map: &mut RunMap, pages: u32) -> Option<u32>
+    requires { 0 < pages }
+{
+    map.take(pages)
+}
+
 /// Gives pages back where all of them are taken, and tells whether they are.
 fn gives(map: &mut RunMap, start: u32, pages: u32) -> bool {
     let taken = map.all_taken(start, pages);
@@ -36,7 +48,7 @@ fn gives(map: &mut RunMap, start: u32, pages: u32) -> bool {
     taken
 }
 
-/// The first of all starts of so many free pages, each start looked at by itself.
+/// The first of all starts of `pages` free pages, each start looked at by itself.
 fn scanned(flags: &[bool], pages: usize) -> Option<usize>
     requires { 0 < pages }
 {
@@ -59,7 +71,7 @@ fn take_alike(map: &mut RunMap, flags: &mut [bool], pages: u32) -> bool
     if let Some(start) = expected {
         mark(flags, start, pages as usize, true);
     }
-    map.take(pages).map(|start| start as usize) == expected
+    takes(map, pages).map(|start| start as usize) == expected
 }
 
 /// Gives the pages back to both where all of them are taken, and tells whether both say the same of that.
@@ -84,9 +96,9 @@ fn step_alike(map: &mut RunMap, flags: &mut [bool], draws: &mut Draws) -> bool {
     }
 }
 
-/// Whether a run map of so many pages and a plain scan answer alike at each of so many steps.
+/// Whether a run map of `pages` pages and a plain scan answer alike at each of `steps` steps.
 fn run_alike(alloc: Global, pages: u32, seed: u64, steps: u32) -> Result<bool, NoMemory> {
-    let mut map = RunMap::new(alloc, pages)?;
+    let mut map = made(alloc, pages)?;
     let mut flags = vec![in alloc; false; pages as usize]?;
     let mut draws = Draws(seed);
     for _ in 0..steps {
@@ -105,37 +117,18 @@ fn goes_round(map: &mut RunMap, pieces: u32, piece: u32) -> bool
     requires not_empty { 0 < piece }
 {
     let all = pieces * piece;
-    let first = map.take(all) == Some(0) && map.take(1).is_none();
+    let first = takes(map, all) == Some(0) && takes(map, 1).is_none();
     for before in 0..pieces {
         let start = (pieces - 1 - before) * piece;
         if !gives(map, start, piece) || gives(map, start, piece) {
             return false;
         }
     }
-    first && map.take(all) == Some(0) && map.all_taken(0, all)
-}
-
-#[test]
-fn lowest_runs_of_eight_pages(rt: HostRuntime) -> Result<(), Fail> {
-    let mut map = RunMap::new(rt.alloc(), 8)?;
-    let before = (map.pages(), map.take(3), map.take(2));
-    let gave = gives(&mut map, 0, 3);
-    let after = (map.take(4), map.take(3), map.take(4), map.take(3));
-    assert_eq!(rt; before, (8, Some(0), Some(3)));
-    assert!(rt; gave);
-    assert_eq!(rt; after, (None, Some(0), None, Some(5)));
-    Ok(())
-}
-
-#[test]
-fn all_pages_go_round(rt: HostRuntime) -> Result<(), Fail> {
-    let mut map = RunMap::new(rt.alloc(), 8192)?;
-    assert!(rt; goes_round(&mut map, 16, 512));
-    Ok(())
+    first && takes(map, all) == Some(0)
 }
 
 /// Of 8 pages, of which only page 3 is free: a start, how many pages, and whether all of them are taken.
-const EDGES: [(u32, u32, bool); 17] = [
+const EDGES: &[(u32, u32, bool)] = &[
     (0, 3, true),
     (0, 4, false),
     (2, 2, false),
@@ -155,23 +148,49 @@ const EDGES: [(u32, u32, bool); 17] = [
     (0xffff_ffff, 0xffff_ffff, false),
 ];
 
+/// The start and pages of the first case of which `all_taken` says otherwise.
+fn first_wrong(map: &RunMap, cases: &[(u32, u32, bool)]) -> Option<(u32, u32)> {
+    for (start, pages, taken) in cases {
+        if map.all_taken(*start, *pages) != *taken {
+            return Some((*start, *pages));
+        }
+    }
+    None
+}
+
+#[test]
+fn lowest_runs_of_eight_pages(rt: HostRuntime) -> Result<(), Fail> {
+    let mut map = made(rt.alloc(), 8)?;
+    let before = (takes(&mut map, 3), takes(&mut map, 2));
+    let gave = gives(&mut map, 0, 3);
+    let after = (takes(&mut map, 4), takes(&mut map, 3));
+    assert_eq!(rt;
+        (before, gave, after),
+        ((Some(0), Some(3)), true, (None, Some(0)))
+    );
+    Ok(())
+}
+
+#[test]
+fn all_pages_go_round(rt: HostRuntime) -> Result<(), Fail> {
+    let mut map = made(rt.alloc(), 8192)?;
+    assert!(rt; goes_round(&mut map, 16, 512));
+    Ok(())
+}
+
 #[test]
 fn all_taken_at_the_edges(rt: HostRuntime) -> Result<(), Fail> {
-    let mut map = RunMap::new(rt.alloc(), 8)?;
-    let all = map.take(8);
-    let gave = gives(&mut map, 3, 1);
-    assert_eq!(rt; (all, gave), (Some(0), true));
-    for (start, pages, taken) in EDGES {
-        assert_eq!(rt;
-            map.all_taken(start, pages),
-            taken,
-            "{pages} pages from {start} on"
-        );
-    }
-    let none = RunMap::new(rt.alloc(), 0)?;
+    let mut map = made(rt.alloc(), 8)?;
+    let made_so = (map.pages(), takes(&mut map, 8), gives(&mut map, 3, 1));
+    assert_eq!(rt; made_so, (8, Some(0), true));
+    assert_eq!(rt; first_wrong(&map, EDGES), None);
+    let none = made(rt.alloc(), 0)?;
     assert_eq!(rt;
-        (none.pages(), none.all_taken(0, 0), none.all_taken(0, 1)),
-        (0, true, false)
+        (
+            none.pages(),
+            first_wrong(&none, &[(0, 0, true), (0, 1, false)])
+        ),
+        (0, None)
     );
     Ok(())
 }

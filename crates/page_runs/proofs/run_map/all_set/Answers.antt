@@ -1,7 +1,7 @@
 use Rattle.std.proofs.Common.{◌≡◌, ◌+◌, ◌-◌, true, false, rules, arith, tests}
 use Rattle.std.proofs.lemmas.Iterator.{cases_from_all, YieldsList-from_slice}
 use Rattle.page_runs.proofs.PartLemmas.{part, all_of_part}
-use Rattle.page_runs.proofs.run_map.are_taken.Goals as goal
+use Rattle.page_runs.proofs.run_map.all_set.Goals as goal
 
 pub returns-then-end-taken : goal.returns-then-end-taken
 returns-then-end-taken c =
