@@ -1,0 +1,3 @@
+pub mod ChangeLemmas
+pub mod PartLemmas
+pub mod SearchLemmas
