@@ -1,5 +1,6 @@
 -- Memory over pages, read and written.
-use Rattle.std.proofs.Common.{◌≡◌, ℕ, zero, suc, ◌+◌, ◌-◌, ◌*◌, ◌%◌, ◌≤◌, ◌<◌, ◌^◌, List, [], ◌∷◌, ◌++◌, length, take, drop, set, replicate, Bool, true, false, ◌==◌, min}
+use Rattle.std.proofs.Common.{◌≡◌, ℕ, zero, suc, ◌+◌, ◌-◌, ◌*◌, ◌%◌, ◌≤◌, ◌<◌, ◌^◌, List, [], ◌∷◌, ◌++◌, length, take, drop, set, replicate}
+use Rattle.std.proofs.Common.{Bool, true, false, ◌==◌, min}
 use Rattle.std.proofs.Common.{refl, inl, inr, sym, ap, subst, ◌∙◌, mul_comm, pow-add, length-set, arith}
 use Rattle.std.proofs.Math.Nat.{pow-succ', pow-le-pow_right, mul-le-mul_right, suc-mul}
 use Rattle.std.proofs.Math.Pow.{shl_exact, pow_mono}
@@ -7,7 +8,8 @@ use Rattle.std.proofs.lemmas.List.{length-take, length-drop, take-append-drop, t
 use Rattle.mm_base.specs.Frames.{ArePages, IsLive, page_in, with_piece, zeros}
 use Rattle.mm_base.specs.Numbers.{overwritten, number_of, number_in}
 use Rattle.mm_memory.specs.Flat.{MemoryState, joined, AreLive, IsWidth, IsWhole}
-use Rattle.mm_memory.proofs.PageLemmas.{chunk_of_page, joined-with_piece, length-joined, are_pages-with_piece, overwritten-after, length-overwritten, number_in-split, length-zeros, overwritten-whole, size_of_page}
+use Rattle.mm_memory.proofs.PageLemmas.{chunk_of_page, joined-with_piece, length-joined, are_pages-with_piece, overwritten-after}
+use Rattle.mm_memory.proofs.PageLemmas.{length-overwritten, number_in-split, length-zeros, overwritten-whole, size_of_page}
 
 -- ---- numbers of two parts
 
@@ -53,7 +55,8 @@ some_left (suc n) b is left = omega arith
 
 -- ---- memory
 
-module _ (pages : List (List ℕ)) (live : List Bool) (whole : IsWhole pages live) (at page offset : ℕ) (is : at ≡ 4096 * page + offset) (small : offset < 4096) where
+module _ (pages : List (List ℕ)) (live : List Bool) (whole : IsWhole pages live) (at page offset : ℕ) (is : at ≡ 4096 * page + offset)
+    (small : offset < 4096) where
   -- the page of a byte of memory is there
   pub page_is_there : at < length (joined pages) → page < length pages
   page_is_there within = omega (arith, length-joined pages whole.are)
@@ -67,14 +70,16 @@ module _ (pages : List (List ℕ)) (live : List Bool) (whole : IsWhole pages liv
 
   -- a number of two pages
   pub read_across : (n : ℕ) → 4096 - offset < n → n ≤ 4096 → at + n ≤ length (joined pages)
-      → number_in (page_in pages page) offset (4096 - offset) + 256 ^ (4096 - offset) * number_in (page_in pages (page + 1)) 0 (n - (4096 - offset))
+      → number_in (page_in pages page) offset (4096 - offset) + 256 ^ (4096 - offset) * number_in (page_in pages (page + 1)) 0
+      (n - (4096 - offset))
       ≡ number_in (joined pages) at n
   read_across n past few within =
       let k = 4096 - offset in
       let there : page + 1 < length pages = omega (arith, length-joined pages whole.are) in
       let next : at + k ≡ 4096 * (page + 1) + 0 = omega arith in
       let high : number_in (page_in pages (page + 1)) 0 (n - k) ≡ number_in (joined pages) (at + k) (n - k) =
-      ap number_of (chunk_of_page pages (page + 1) 0 (n - k) whole.are there (omega arith)) ∙ ap (λ j. number_in (joined pages) j (n - k)) (sym next) in
+      ap number_of (chunk_of_page pages (page + 1) 0 (n - k) whole.are there (omega arith))
+      ∙ ap (λ j. number_in (joined pages) j (n - k)) (sym next) in
       let sum : k + (n - k) ≡ n = omega arith in
       ap (λ m. m + 256 ^ k * number_in (page_in pages (page + 1)) 0 (n - k)) (read_here k (omega arith) (omega arith) (omega arith))
       ∙ ap (λ m. number_in (joined pages) at k + 256 ^ k * m) high
@@ -130,17 +135,20 @@ zeros-drop (suc k) (suc n) fits =
     ap (λ m. zeros m) less ∙ zeros-drop k n (omega arith)
 
 -- clearing what is left after some were cleared
-pub clears_on : (bytes after : List ℕ) (from here most : ℕ) → after ≡ overwritten bytes from (zeros here) → here ≤ most → from + most ≤ length bytes
+pub clears_on : (bytes after : List ℕ) (from here most : ℕ) → after ≡ overwritten bytes from (zeros here) → here ≤ most
+    → from + most ≤ length bytes
     → overwritten after (from + here) (zeros (most - here)) ≡ overwritten bytes from (zeros most)
 clears_on bytes after from here most is fits within =
     goes_on bytes after (zeros most) (zeros here) (zeros (most - here)) from here is (zeros-take here most fits) (zeros-drop here most fits)
     (omega (arith, length-zeros most)) (omega (arith, length-zeros most))
 
-module _ (pages after : List (List ℕ)) (live : List Bool) (whole : IsWhole pages live) (page : ℕ) (there : page < length pages) (is : after ≡ set pages page (zeros 4096)) where
+module _ (pages after : List (List ℕ)) (live : List Bool) (whole : IsWhole pages live) (page : ℕ) (there : page < length pages)
+    (is : after ≡ set pages page (zeros 4096)) where
   -- filling a page with zeros is a piece of zeros written to it
   pub page_of_zeros : after ≡ with_piece pages page 0 (zeros 4096)
   page_of_zeros =
-      is ∙ ap (set pages page) (sym (overwritten-whole (page_in pages page) (zeros 4096) (size_of_page pages page whole.are there ∙ sym (length-zeros 4096))))
+      is ∙ ap (set pages page)
+      (sym (overwritten-whole (page_in pages page) (zeros 4096) (size_of_page pages page whole.are there ∙ sym (length-zeros 4096))))
 
 -- some of the zeros of a block
 pub zeros_of_block : (n : ℕ) (block piece : List ℕ) → n ≤ 64 → block ≡ replicate 64 0 → piece ≡ take n block → piece ≡ zeros n

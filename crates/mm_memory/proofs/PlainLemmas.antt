@@ -4,7 +4,8 @@ use Rattle.std.proofs.Common.{Bool, true, false, refl, sym, ap, subst, ◌∙◌
 use Rattle.mm_base.specs.Frames.{ArePages, page_in, with_piece, zeros}
 use Rattle.mm_base.specs.Numbers.{overwritten, number_of, number_in}
 use Rattle.mm_memory.specs.Flat.{PlainState, joined, pages_in}
-use Rattle.mm_memory.proofs.PageLemmas.{chunk_of_page, joined-with_piece, joined-pages_in, are_pages-pages_in, pages_in-joined, length-pages_in, are_pages-with_piece, size_of_page, length-zeros, overwritten-whole}
+use Rattle.mm_memory.proofs.PageLemmas.{chunk_of_page, joined-with_piece, joined-pages_in, are_pages-pages_in, pages_in-joined}
+use Rattle.mm_memory.proofs.PageLemmas.{length-pages_in, are_pages-with_piece, size_of_page, length-zeros, overwritten-whole}
 
 -- a live page is there
 pub live_is_there : (n page : ℕ) → get_or (replicate n true) page false ≡ true → page < n
@@ -53,7 +54,8 @@ module _ (n : ℕ) (bytes : List ℕ) (size : length bytes ≡ 4096 * n) where
       let are = are_pages-pages_in n bytes size in
       let within : page < length pages = omega (arith, length-pages_in n bytes) in
       plain_write page 0 (zeros 4096) there (omega (arith, length-zeros 4096))
-      ∙ ap (set pages page) (overwritten-whole (page_in pages page) (zeros 4096) (size_of_page pages page are within ∙ sym (length-zeros 4096)))
+      ∙ ap (set pages page)
+      (overwritten-whole (page_in pages page) (zeros 4096) (size_of_page pages page are within ∙ sym (length-zeros 4096)))
 
 module _ (inside now : PlainState) (is : inside ≡ now) (size : length inside.bytes ≡ 4096 * inside.pages) where
   -- the pages after a piece was written to one of them

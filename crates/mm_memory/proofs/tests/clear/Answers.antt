@@ -9,7 +9,8 @@ returns-then-count-at c =
     record {
       size =
           ap length c.clear.ensures.bytes
-          ∙ length-overwritten c.args.memory.now.bytes (zeros c.args.count) c.args.at (omega (arith, size, c.if-at-le8192.true, c.if-count-at.true, length-zeros c.args.count))
+          ∙ length-overwritten c.args.memory.now.bytes (zeros c.args.count) c.args.at
+          (omega (arith, size, c.if-at-le8192.true, c.if-count-at.true, length-zeros c.args.count))
           ∙ size;
       live = c.clear.ensures.live ∙ c.requires.live;
     }

@@ -17,7 +17,8 @@ pub overflow_add-result : goal.overflow_add-result
 overflow_add-result g c =
     let here = 4096 - c.place-page.result.1 in
     let few : here + (c.args.n - here) ≤ 8 = omega (arith, c.if-n-here.false, (width_bounds c.args.n c.requires.width).1) in
-    let upper = shifted c.read-low.result c.read-high.result here (c.args.n - here) few c.read-low.ensures.small c.read-high.ensures.small in
+    let upper = shifted c.read-low.result c.read-high.result here
+    (c.args.n - here) few c.read-low.ensures.small c.read-high.ensures.small in
     let fit = both_fit c.read-low.result c.read-high.result here (c.args.n - here) few c.read-low.ensures.small c.read-high.ensures.small in
     omega (arith, upper, fit)
 
@@ -26,7 +27,8 @@ returns-clause-value g c =
     let size = ap (λ (memory : MemoryState). length memory.bytes) c.self.view_is in
     let here = 4096 - c.place-page.result.1 in
     let few : here + (c.args.n - here) ≤ 8 = omega (arith, c.if-n-here.false, (width_bounds c.args.n c.requires.width).1) in
-    ap (λ m. c.read-low.result + m) (shifted c.read-low.result c.read-high.result here (c.args.n - here) few c.read-low.ensures.small c.read-high.ensures.small)
+    ap (λ m. c.read-low.result + m)
+    (shifted c.read-low.result c.read-high.result here (c.args.n - here) few c.read-low.ensures.small c.read-high.ensures.small)
     ∙ ap (λ m. m + 256 ^ here * c.read-high.result) c.read-low.ensures.value
     ∙ ap (λ m. number_in (page_in (g.F.Frames.contents c.self.inside.frames) c.place-page.result.0) c.place-page.result.1 here + 256 ^ here * m) c.read-high.ensures.value
     ∙ read_across _ _ c.self.invariant c.args.at _ _ c.place-page.ensures.page c.place-page.ensures.offset c.args.n c.if-n-here.false
@@ -37,8 +39,10 @@ pub returns-clause-small : goal.returns-clause-small
 returns-clause-small g c =
     let here = 4096 - c.place-page.result.1 in
     let few : here + (c.args.n - here) ≤ 8 = omega (arith, c.if-n-here.false, (width_bounds c.args.n c.requires.width).1) in
-    let upper = shifted c.read-low.result c.read-high.result here (c.args.n - here) few c.read-low.ensures.small c.read-high.ensures.small in
-    let small = both_small c.read-low.result c.read-high.result here (c.args.n - here) few c.read-low.ensures.small c.read-high.ensures.small in
+    let upper = shifted c.read-low.result c.read-high.result here
+    (c.args.n - here) few c.read-low.ensures.small c.read-high.ensures.small in
+    let small = both_small c.read-low.result c.read-high.result here
+    (c.args.n - here) few c.read-low.ensures.small c.read-high.ensures.small in
     let all : here + (c.args.n - here) ≡ c.args.n = omega (arith, c.if-n-here.false) in
     let P : ℕ → Type 0 = λ n. c.read-low.result + 256 ^ here * c.read-high.result < 256 ^ n in
     omega (arith, upper, subst P all small)

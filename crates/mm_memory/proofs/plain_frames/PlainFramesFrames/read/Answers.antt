@@ -11,4 +11,5 @@ returns-clause-value c =
     ∙ ap (λ (bytes : List ℕ). number_in bytes c.place.result c.args.n) c.as_slice.ensures.value
     ∙ ap (λ (plain : PlainState). number_in plain.bytes c.place.result c.args.n) c.self.view_is
     ∙ ap (λ place. number_in now.bytes place c.args.n) c.place.ensures
-    ∙ plain_read now.pages now.bytes (size_of_plain _ now c.self.view_is c.self.invariant) c.args.page c.args.at c.args.n (live_is_there now.pages c.args.page c.requires.live) c.requires.within
+    ∙ plain_read now.pages now.bytes (size_of_plain _ now c.self.view_is c.self.invariant) c.args.page c.args.at c.args.n
+    (live_is_there now.pages c.args.page c.requires.live) c.requires.within

@@ -8,4 +8,5 @@ pub returns-clause-bytes : goal.returns-clause-bytes
 returns-clause-bytes c =
     plain_piece _ c.args.self.now c.self.view_is c.self.invariant c.args.page c.args.at c.place.result
     c.split_at.result.0.now (low_bytes c.args.n c.args.value) c.overwrite.new.bytes.items
-    (live_is_there c.args.self.now.pages c.args.page c.requires.live) (omega (arith, c.requires.within, length-take c.args.n (bytes_of_word c.args.value))) c.place.ensures (search rules) c.overwrite.ensures
+    (live_is_there c.args.self.now.pages c.args.page c.requires.live)
+    (omega (arith, c.requires.within, length-take c.args.n (bytes_of_word c.args.value))) c.place.ensures (search rules) c.overwrite.ensures

@@ -15,5 +15,6 @@ invariant_of-self c =
     let there = live_is_there c.args.self.now.pages c.args.page c.requires in
     let pages : c.self.inside.pages ≡ c.args.self.now.pages = ap (λ (plain : PlainState). plain.pages) c.self.view_is in
     ap length c.clear_page.ensures
-    ∙ length-overwritten c.self.inside.bytes.items (zeros 4096) c.place.result (omega (arith, there, pages, c.place.ensures, c.self.invariant, length-zeros 4096))
+    ∙ length-overwritten c.self.inside.bytes.items (zeros 4096) c.place.result
+    (omega (arith, there, pages, c.place.ensures, c.self.invariant, length-zeros 4096))
     ∙ c.self.invariant
