@@ -1,0 +1,5 @@
+pub mod ArenaLemmas
+pub mod BlockLemmas
+pub mod PartLemmas
+pub mod SizeLemmas
+pub mod TreeLemmas
