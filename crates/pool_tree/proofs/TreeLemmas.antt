@@ -40,7 +40,7 @@ joined_short level wanted Free Free w h = absurd (omega arith)
 joined_short level wanted a b w h = (omega arith, omega arith)
 
 -- below a free node both halves are free
-free_below : (level : ℕ) (node : Node) (below : List Node) → FitsBelow level node below → node ≡ Free
+pub free_below : (level : ℕ) (node : Node) (below : List Node) → FitsBelow level node below → node ≡ Free
     → (node_first (left_half level below) ≡ Free) × (node_first (right_half level below) ≡ Free)
 free_below level node below fits free = elim fits [
   inl live ↦ (live.1, live.2)

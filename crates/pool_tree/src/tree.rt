@@ -94,8 +94,9 @@ pub fn take(nodes: &mut [Node], level: u8, base: u32, wanted: u8) -> Option<u32>
         nodes[0] = Node::Live;
         return Some(base);
     }
-    let place = take_below(&mut nodes[1..], level - 1, base, wanted);
-    let node = joined(&nodes[1..], level - 1);
+    let below = &mut nodes[1..];
+    let place = take_below(below, level - 1, base, wanted);
+    let node = joined(below, level - 1);
     nodes[0] = node;
     place
 }
@@ -141,8 +142,9 @@ pub fn give(nodes: &mut [Node], level: u8, base: u32, place: u32) -> Result<(), 
         nodes[0] = Node::Free;
         return Ok(());
     }
-    let given = give_below(&mut nodes[1..], level - 1, base, place);
-    let node = joined(&nodes[1..], level - 1);
+    let below = &mut nodes[1..];
+    let given = give_below(below, level - 1, base, place);
+    let node = joined(below, level - 1);
     nodes[0] = node;
     given
 }
