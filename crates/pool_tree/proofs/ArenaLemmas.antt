@@ -8,12 +8,16 @@ use Rattle.std.proofs.lemmas.List.Elements.{All-contains_itself, filter_passes, 
 use Rattle.std.proofs.Common.{lit≤}
 use Rattle.pool_tree.specs.declared.tree.Node.{Node}
 use Rattle.pool_tree.specs.declared.tree.Node.TheVariants.{Free}
-use Rattle.pool_tree.specs.Pool.{Block, PoolState, IsApart, IsPlace, IsBlock, IsArena, without_block}
-use Rattle.pool_tree.specs.PoolInside.{IsPart}
+use Rattle.std.proofs.Common.{◌↔◌, Option, Some, None, Result, Ok, Err, IfSome, IfNone, OnOk, OnErr, IsErr}
+use Rattle.std.proofs.lemmas.Bool.{false≢true}
+use Rattle.std.proofs.lemmas.List.Elements.{All-weaker}
+use Rattle.pool_tree.specs.declared.pool.NotLive.{NotLive}
+use Rattle.pool_tree.specs.Pool.{Block, PoolState, IsApart, IsPlace, IsLowestPlace, IsLive, IsBlock, IsBlockSize, IsArena, with_block, without_block}
+use Rattle.pool_tree.specs.PoolInside.{IsPart, IsPlaceIn, Gives, Frees}
 use Rattle.pool_tree.specs.TreeInside.{part_bytes, node_first, left_half, right_half, joined_node, is_live_node, IsKept, live_in, AllFree, IsPool, pool_of}
-use Rattle.pool_tree.proofs.SizeLemmas.{bytes_some, bytes-pow, part_left, part_right}
-use Rattle.pool_tree.proofs.BlockLemmas.{IsBefore, IsAfter}
-use Rattle.pool_tree.proofs.TreeLemmas.{kept_from, free_is_empty, live_in-below, left_is_before, part_is_after}
+use Rattle.pool_tree.proofs.SizeLemmas.{bytes_some, bytes-pow, part_left, part_right, size_unique}
+use Rattle.pool_tree.proofs.BlockLemmas.{IsBefore, IsAfter, not_live}
+use Rattle.pool_tree.proofs.TreeLemmas.{kept_from, free_is_empty, live_in-below, left_is_before, part_is_after, IsWithin, within_part}
 
 -- ---- a new arena
 
@@ -143,3 +147,75 @@ freed_is_a_place live block arena has =
           let passes = filter_passes other live k d here in
           two_blocks live block (get_or (filter other live) k d) arena.in_order has member (eqb-false _ _ (not-true _ passes));
     }
+
+-- ---- what the code's calls say of a whole arena
+
+module _ (nodes slice later final : List Node) (state : PoolState) (same : slice ≡ nodes) (last : final ≡ later) (is : pool_of nodes ≡ state) where
+
+  pub pool_gives : (size : ℕ) (result : Option ℕ)
+      → Gives 0 (part_bytes 12) size (live_in 12 0 slice) (live_in 12 0 later) result → Gives 0 65536 size state (pool_of final) result
+  unfolding pool_of
+  pool_gives size result gives =
+      subst (λ (l : PoolState). Gives 0 65536 size l (pool_of final) result) (ap pool_of same ∙ is)
+      (subst (λ (l : PoolState). Gives 0 65536 size (pool_of slice) l result) (sym (ap pool_of last)) gives)
+
+  pub pool_frees : (place : ℕ) (result : Result (Unit {0}) NotLive)
+      → Frees place (live_in 12 0 slice) (live_in 12 0 later) result → Frees place state (pool_of final) result
+  unfolding pool_of
+  pool_frees place result frees =
+      subst (λ (l : PoolState). Frees place l (pool_of final) result) (ap pool_of same ∙ is)
+      (subst (λ (l : PoolState). Frees place (pool_of slice) l result) (sym (ap pool_of last)) frees)
+
+-- ---- the clauses of a call, by its answer
+
+module _ (live later : PoolState) (n size : ℕ) (is_size : IsBlockSize n size) where
+
+  place_within : (place : ℕ) → IsPlace live size place → IsPlaceIn 0 65536 live size place
+  place_within place p = record { after = omega arith; before = p.within; aligned = p.aligned; apart = p.apart }
+
+  place_of : (place : ℕ) → IsPlaceIn 0 65536 live size place → IsPlace live size place
+  place_of place p = record { aligned = p.aligned; within = p.before; apart = p.apart }
+
+  pub gives-lowest : (result : Option ℕ) → Gives 0 65536 size live later result
+      → IfSome result (λ place. (other : ℕ) → IsBlockSize n other → IsLowestPlace live other place)
+  gives-lowest None gives = tt
+  gives-lowest (Some place) gives = λ other is_other.
+      subst (λ s. IsLowestPlace live s place) (size_unique n size other is_size is_other)
+      record { is_place = place_of place gives.is_place; lowest = λ q p. gives.lowest q (place_within q p) }
+
+  pub gives-joins : (result : Option ℕ) → Gives 0 65536 size live later result
+      → IfSome result (λ place. (other : ℕ) → IsBlockSize n other → later ≡ with_block live place other)
+  gives-joins None gives = tt
+  gives-joins (Some place) gives = λ other is_other.
+      subst (λ s. later ≡ with_block live place s) (size_unique n size other is_size is_other) gives.joins
+
+  pub gives-none : (result : Option ℕ) → Gives 0 65536 size live later result
+      → (result ≡ None) ↔ ((other place : ℕ) → IsBlockSize n other → IsPlace live other place → ⊥)
+  gives-none None gives = (
+    λ _ other place is_other p.
+        gives.none place (place_within place (subst (λ s. IsPlace live s place) (size_unique n other size is_other is_size) p)),
+    λ _. refl,
+  )
+  gives-none (Some place) gives = (
+    λ e. cc,
+    λ no. absurd (no size place is_size (place_of place gives.is_place)),
+  )
+
+  pub gives-unchanged : (result : Option ℕ) → Gives 0 65536 size live later result → IfNone result (later ≡ live)
+  gives-unchanged None gives = gives.unchanged
+  gives-unchanged (Some place) gives = tt
+
+module _ (place : ℕ) (live later : PoolState) where
+
+  pub frees-ok : (result : Result (Unit {0}) NotLive) → Frees place live later result
+      → OnOk result (IsLive live place × (later ≡ without_block live place))
+  frees-ok (Ok done) frees = frees
+  frees-ok (Err fault) frees = tt
+
+  pub frees-not_live : (result : Result (Unit {0}) NotLive) → Frees place live later result → IsErr result ↔ (IsLive live place → ⊥)
+  frees-not_live (Ok done) frees = (λ e. absurd (false≢true e), λ no. absurd (no frees.0))
+  frees-not_live (Err fault) frees = (λ _. frees.0, λ _. refl)
+
+  pub frees-err : (result : Result (Unit {0}) NotLive) → Frees place live later result → OnErr result (later ≡ live)
+  frees-err (Ok done) frees = tt
+  frees-err (Err fault) frees = frees.1

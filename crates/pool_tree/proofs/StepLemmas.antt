@@ -228,3 +228,11 @@ frees_second level base place left right right_later result long after frees =
     frees_same place result _ _ _ _ (sym (halves_live level base left right long)) (sym (halves_live level base left right_later long))
     (frees_right (base + part_bytes level) (live_in level base left) (live_in level (base + part_bytes level) right) place
     (live_in level (base + part_bytes level) right_later) result after (left_is_before level base left) frees)
+
+-- a part of level 0 has no block
+pub none_at_zero : (level base place : ℕ) (nodes : List Node) → level ≡ 0 → IsLive (live_in level base nodes) place → ⊥
+unfolding live_in
+none_at_zero level base place nodes zero_is is_live =
+    let none : IsLive [] place = subst (λ n. IsLive (live_in n base nodes) place) zero_is is_live in
+    let within = none.1 in
+    omega arith

@@ -1,5 +1,5 @@
 //! A pool arena, as its live blocks.
-ghost use Rattle.std.specs.Prelude.{◌≡◌, ◌≤◌, ◌↔◌, ℕ, [], IfOk, IfSome, IfNone, OnOk, OnErr, IsErr, vec_len};
+ghost use Rattle.std.specs.Prelude.{◌≡◌, ◌≤◌, ◌↔◌, ℕ, [], IfOk, IfSome, IfNone, OnOk, OnErr, IsErr, length};
 ghost use Rattle.pool_tree.specs.Pool.{IsArena, IsBlockSize, IsLive, IsLowestPlace, IsPlace, with_block, without_block};
 ghost use Rattle.pool_tree.specs.TreeInside.{AllFree, part_bytes};
 
@@ -72,10 +72,7 @@ impl PoolTree {
         ensures not_live { IsErr result ↔ ¬ IsLive self.old place }
         ensures err { OnErr result (self.new ≡ self.old) }
     {
-        if place >= ARENA_BYTES {
-            return Err(NotLive);
-        }
-        give(self.nodes.as_mut_slice(), TOP, 0, place as u32)
+        give(self.nodes.as_mut_slice(), TOP, 0, place)
     }
 
     /// Says of every arena that its blocks lie apart in it, each aligned to its size.
@@ -88,7 +85,7 @@ impl PoolTree {
 
 /// So many nodes of free parts.
 fn free_nodes(alloc: Global, count: usize) -> Result<Vec<Node>, NoMemory>
-    ensures count { IfOk result (λ nodes. vec_len nodes ≡ count) }
+    ensures count { IfOk result (λ nodes. length nodes.items ≡ count) }
     ensures free { IfOk result (λ nodes. AllFree nodes.items) }
 {
     let nodes = vec![in alloc; Node::Free; count]?;

@@ -124,7 +124,7 @@ fn take_below(below: &mut [Node], level: u8, base: u32, wanted: u8) -> Option<u3
 
 /// Frees the live block that begins at a place.
 #[cycle(give)]
-pub fn give(nodes: &mut [Node], level: u8, base: u32, place: u32) -> Result<(), NotLive>
+pub fn give(nodes: &mut [Node], level: u8, base: u64, place: u64) -> Result<(), NotLive>
     requires nodes { length nodes.old ≡ node_count level }
     requires kept { IsKept level nodes.old }
     requires high { level ≤ 12 }
@@ -135,7 +135,7 @@ pub fn give(nodes: &mut [Node], level: u8, base: u32, place: u32) -> Result<(), 
     if level == 0 {
         return Err(NotLive);
     }
-    if is_live(nodes[0]) {
+    if is_live(first_of(nodes)) {
         if place != base {
             return Err(NotLive);
         }
@@ -151,7 +151,7 @@ pub fn give(nodes: &mut [Node], level: u8, base: u32, place: u32) -> Result<(), 
 
 /// The same in that half of a part in which the place lies.
 #[cycle(give)]
-fn give_below(below: &mut [Node], level: u8, base: u32, place: u32) -> Result<(), NotLive>
+fn give_below(below: &mut [Node], level: u8, base: u64, place: u64) -> Result<(), NotLive>
     requires nodes { length below.old ≡ 2 * node_count level }
     requires kept { IsKeptBelow level below.old }
     requires high { level < 12 }
@@ -161,7 +161,7 @@ fn give_below(below: &mut [Node], level: u8, base: u32, place: u32) -> Result<()
 {
     let middle = below.len() / 2;
     let (left, right) = below.split_at_mut(middle);
-    let second = base + bytes_at(level);
+    let second = base + u64::from(bytes_at(level));
     if place < second {
         return give(left, level, base, place);
     }
