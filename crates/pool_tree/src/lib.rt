@@ -4,7 +4,8 @@
 
 pub mod laws;
 mod pool;
-
+#[cfg(test)]
+mod tests;
 mod tree;
 
 pub use pool::{NotLive, PoolTree};

@@ -50,8 +50,8 @@ impl PoolTree {
     }
 
     /// Makes the lowest block for n bytes live, and gives its place. Its size is the least power of two that is at least 32 and at
-    /// least n, and its place is a multiple of its size. None where no such block is free. It takes no memory, and looks at one
-    /// path through the tree, at most 23 nodes.
+    /// least n, and its place is a multiple of its size. None where no such block is free. It takes no memory. It costs the
+    /// logarithm of the arena: at most four nodes of each of the 12 levels are looked at.
     pub fn alloc(&mut self, n: u64) -> Option<u32>
         requires { 1 ≤ n }
         ensures lowest { IfSome result (λ place. (size : ℕ) → IsBlockSize n size → IsLowestPlace self.old size place) }
@@ -66,7 +66,8 @@ impl PoolTree {
         take(self.nodes.as_mut_slice(), TOP, 0, wanted)
     }
 
-    /// Frees the live block that begins at a place. It takes no memory, and looks at one path through the tree, at most 12 nodes.
+    /// Frees the live block that begins at a place. It takes no memory. It costs the logarithm of the arena: at most three nodes
+    /// of each of the 12 levels are looked at.
     pub fn free(&mut self, place: u64) -> Result<(), NotLive>
         ensures ok { OnOk result (IsLive self.old place × (self.new ≡ without_block self.old place)) }
         ensures not_live { IsErr result ↔ ¬ IsLive self.old place }
@@ -75,15 +76,15 @@ impl PoolTree {
         give(self.nodes.as_mut_slice(), TOP, 0, place)
     }
 
-    /// Says of every arena that its blocks lie apart in it, each aligned to its size.
-    pub fn lies_apart(&self)
+    /// What is true of the live blocks of every arena.
+    pub(crate) fn lies_apart(&self)
         ensures { IsArena self.now }
     {
         let _nodes = &self.nodes;
     }
 }
 
-/// So many nodes of free parts.
+/// A count of nodes of free parts.
 fn free_nodes(alloc: Global, count: usize) -> Result<Vec<Node>, NoMemory>
     ensures count { IfOk result (λ nodes. length nodes.items ≡ count) }
     ensures free { IfOk result (λ nodes. AllFree nodes.items) }

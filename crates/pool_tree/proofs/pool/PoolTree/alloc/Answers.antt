@@ -1,4 +1,4 @@
-use Rattle.std.proofs.Common.{◌≡◌, length}
+use Rattle.std.proofs.Common.{rules, ◌≡◌, length}
 use Rattle.std.proofs.lemmas.List.{with_items_is}
 use Rattle.pool_tree.specs.TreeInside.{part_bytes}
 use Rattle.pool_tree.proofs.ArenaLemmas.{pool_gives, gives-lowest, gives-joins, gives-none, gives-unchanged}

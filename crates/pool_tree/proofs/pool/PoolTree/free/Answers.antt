@@ -1,4 +1,4 @@
-use Rattle.std.proofs.Common.{◌≡◌, length}
+use Rattle.std.proofs.Common.{rules, ◌≡◌, length}
 use Rattle.std.proofs.lemmas.List.{with_items_is}
 use Rattle.pool_tree.proofs.ArenaLemmas.{pool_frees, frees-ok, frees-not_live, frees-err}
 use Rattle.pool_tree.proofs.pool.PoolTree.free.Goals as goal
