@@ -47,20 +47,20 @@ unfolding live_in
 blocks_in zero base nodes part = All-nil IsBlock
 blocks_in (suc level) base nodes part =
     elim (cases_Bool (is_live_node (node_first nodes))) [
-      inl live ↦
-        subst (All IsBlock) (sym (cond-true _ _ _ live))
-        (All-cons IsBlock _ [] record {
-          power = (suc level + 4, bytes-pow (suc level));
-          floor = omega (arith, bytes_some level);
-          aligned = part.aligned;
-          within = part.within;
-        } (All-nil IsBlock))
+      | inl live ↦
+          subst (All IsBlock) (sym (cond-true _ _ _ live))
+          (All-cons IsBlock _ [] record {
+            power = (suc level + 4, bytes-pow (suc level));
+            floor = omega (arith, bytes_some level);
+            aligned = part.aligned;
+            within = part.within;
+          } (All-nil IsBlock))
       | inr other ↦
-        subst (All IsBlock) (sym (live_in-below level base nodes other))
-        (All-append IsBlock (live_in level base (left_half level (drop 1 nodes)))
-        (live_in level (base + part_bytes level) (right_half level (drop 1 nodes)))
-        (blocks_in level base (left_half level (drop 1 nodes)) (part_left level base part))
-        (blocks_in level (base + part_bytes level) (right_half level (drop 1 nodes)) (part_right level base part)))
+          subst (All IsBlock) (sym (live_in-below level base nodes other))
+          (All-append IsBlock (live_in level base (left_half level (drop 1 nodes)))
+          (live_in level (base + part_bytes level) (right_half level (drop 1 nodes)))
+          (blocks_in level base (left_half level (drop 1 nodes)) (part_left level base part))
+          (blocks_in level (base + part_bytes level) (right_half level (drop 1 nodes)) (part_right level base part)))
     ]
 
 -- a block ends before another begins
@@ -73,18 +73,18 @@ pairs_append : {X : Type 0} (R : X → X → Type 0) (xs ys : List X) → AllPai
 pairs_append R xs ys first second across i j d before within =
     let long : length (xs ++ ys) ≡ length xs + length ys = length-append xs ys in
     elim (cases_lt j (length xs)) [
-      inl left ↦
-        subst (λ x. R x (get_or (xs ++ ys) j d)) (sym (get_or_append_left xs ys d i (omega arith)))
-        (subst (λ y. R (get_or xs i d) y) (sym (get_or_append_left xs ys d j left)) (first i j d before left))
+      | inl left ↦
+          subst (λ x. R x (get_or (xs ++ ys) j d)) (sym (get_or_append_left xs ys d i (omega arith)))
+          (subst (λ y. R (get_or xs i d) y) (sym (get_or_append_left xs ys d j left)) (first i j d before left))
       | inr right ↦ elim (cases_lt i (length xs)) [
-        inl left ↦
-          subst (λ x. R x (get_or (xs ++ ys) j d)) (sym (get_or_append_left xs ys d i left))
-          (subst (λ y. R (get_or xs i d) y) (sym (get_or-append_right xs ys (length xs) j d refl right))
-          (across i (j - length xs) d left (omega arith)))
+        | inl left ↦
+            subst (λ x. R x (get_or (xs ++ ys) j d)) (sym (get_or_append_left xs ys d i left))
+            (subst (λ y. R (get_or xs i d) y) (sym (get_or-append_right xs ys (length xs) j d refl right))
+            (across i (j - length xs) d left (omega arith)))
         | inr both ↦
-          subst (λ x. R x (get_or (xs ++ ys) j d)) (sym (get_or-append_right xs ys (length xs) i d refl both))
-          (subst (λ y. R (get_or ys (i - length xs) d) y) (sym (get_or-append_right xs ys (length xs) j d refl right))
-          (second (i - length xs) (j - length xs) d (omega arith) (omega arith)))
+            subst (λ x. R x (get_or (xs ++ ys) j d)) (sym (get_or-append_right xs ys (length xs) i d refl both))
+            (subst (λ y. R (get_or ys (i - length xs) d) y) (sym (get_or-append_right xs ys (length xs) j d refl right))
+            (second (i - length xs) (j - length xs) d (omega arith) (omega arith)))
       ]
     ]
 
@@ -93,17 +93,17 @@ unfolding live_in
 order_in zero base nodes = λ i j d before within. absurd (omega arith)
 order_in (suc level) base nodes =
     elim (cases_Bool (is_live_node (node_first nodes))) [
-      inl live ↦ subst (AllPairs Precedes) (sym (cond-true _ _ _ live)) (λ i j d before within. absurd (omega arith))
+      | inl live ↦ subst (AllPairs Precedes) (sym (cond-true _ _ _ live)) (λ i j d before within. absurd (omega arith))
       | inr other ↦
-        let left : PoolState = live_in level base (left_half level (drop 1 nodes)) in
-        let right : PoolState = live_in level (base + part_bytes level) (right_half level (drop 1 nodes)) in
-        subst (AllPairs Precedes) (sym (live_in-below level base nodes other))
-        (pairs_append Precedes left right (order_in level base (left_half level (drop 1 nodes)))
-        (order_in level (base + part_bytes level) (right_half level (drop 1 nodes)))
-        (λ i j d here there.
-            let ends = All-get_or (IsBefore (base + part_bytes level)) left i d here (left_is_before level base (left_half level (drop 1 nodes))) in
-            let begins = All-get_or (IsAfter (base + part_bytes level)) right j d there (part_is_after level (base + part_bytes level) (right_half level (drop 1 nodes))) in
-            omega (arith, ends.0, begins)))
+          let left : PoolState = live_in level base (left_half level (drop 1 nodes)) in
+          let right : PoolState = live_in level (base + part_bytes level) (right_half level (drop 1 nodes)) in
+          subst (AllPairs Precedes) (sym (live_in-below level base nodes other))
+          (pairs_append Precedes left right (order_in level base (left_half level (drop 1 nodes)))
+          (order_in level (base + part_bytes level) (right_half level (drop 1 nodes)))
+          (λ i j d here there.
+          let ends = All-get_or (IsBefore (base + part_bytes level)) left i d here (left_is_before level base (left_half level (drop 1 nodes))) in
+          let begins = All-get_or (IsAfter (base + part_bytes level)) right j d there (part_is_after level (base + part_bytes level) (right_half level (drop 1 nodes))) in
+          omega (arith, ends.0, begins)))
     ]
 
 whole_part : IsPart 12 0
@@ -121,16 +121,16 @@ two_blocks live a b ordered has_a has_b other =
     let at_a = at_from_Contains live a has_a in
     let at_b = at_from_Contains live b has_b in
     elim (cases_order at_a.0 at_b.0) [
-      inl same ↦
-        let one : a ≡ b = sym (at_a.2 a) ∙ ap (λ k. get_or live k a) same ∙ at_b.2 a in
-        absurd (other (ap (λ (block : Block). block.place) (sym one)))
+      | inl same ↦
+          let one : a ≡ b = sym (at_a.2 a) ∙ ap (λ k. get_or live k a) same ∙ at_b.2 a in
+          absurd (other (ap (λ (block : Block). block.place) (sym one)))
       | inr apart ↦ elim apart [
-        inl before ↦
-          inl (subst (λ (x : Block). x.place + x.size ≤ b.place) (at_a.2 a)
-          (subst (λ (y : Block). Precedes (get_or live at_a.0 a) y) (at_b.2 a) (ordered at_a.0 at_b.0 a before at_b.1)))
+        | inl before ↦
+            inl (subst (λ (x : Block). x.place + x.size ≤ b.place) (at_a.2 a)
+            (subst (λ (y : Block). Precedes (get_or live at_a.0 a) y) (at_b.2 a) (ordered at_a.0 at_b.0 a before at_b.1)))
         | inr after ↦
-          inr (subst (λ (x : Block). x.place + x.size ≤ a.place) (at_b.2 a)
-          (subst (λ (y : Block). Precedes (get_or live at_b.0 a) y) (at_a.2 a) (ordered at_b.0 at_a.0 a after at_a.1)))
+            inr (subst (λ (x : Block). x.place + x.size ≤ a.place) (at_b.2 a)
+            (subst (λ (y : Block). Precedes (get_or live at_b.0 a) y) (at_a.2 a) (ordered at_b.0 at_a.0 a after at_a.1)))
       ]
     ]
 
@@ -151,7 +151,6 @@ freed_is_a_place live block arena has =
 -- ---- what the code's calls say of a whole arena
 
 module _ (nodes slice later final : List Node) (state : PoolState) (same : slice ≡ nodes) (last : final ≡ later) (is : pool_of nodes ≡ state) where
-
   pub pool_gives : (size : ℕ) (result : Option ℕ)
       → Gives 0 (part_bytes 12) size (live_in 12 0 slice) (live_in 12 0 later) result → Gives 0 65536 size state (pool_of final) result
   unfolding pool_of
@@ -169,7 +168,6 @@ module _ (nodes slice later final : List Node) (state : PoolState) (same : slice
 -- ---- the clauses of a call, by its answer
 
 module _ (live later : PoolState) (n size : ℕ) (is_size : IsBlockSize n size) where
-
   place_within : (place : ℕ) → IsPlace live size place → IsPlaceIn 0 65536 live size place
   place_within place p = record { after = omega arith; before = p.within; aligned = p.aligned; apart = p.apart }
 
@@ -206,7 +204,6 @@ module _ (live later : PoolState) (n size : ℕ) (is_size : IsBlockSize n size) 
   gives-unchanged (Some place) gives = tt
 
 module _ (place : ℕ) (live later : PoolState) where
-
   pub frees-ok : (result : Result (Unit {0}) NotLive) → Frees place live later result
       → OnOk result (IsLive live place × (later ≡ without_block live place))
   frees-ok (Ok done) frees = frees

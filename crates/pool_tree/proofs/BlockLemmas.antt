@@ -55,7 +55,6 @@ apart_from_after seam size place before live all =
     All-weaker (IsAfter seam) (IsApart size place) (λ block after. inl (omega (arith, after))) live all
 
 module _ (seam : ℕ) (left right : PoolState) (place : ℕ) where
-
   -- a block joins those before the seam
   pub with_block-left : (size : ℕ) → place < seam → All (IsAfter seam) right
       → with_block (left ++ right) place size ≡ with_block left place size ++ right
@@ -63,11 +62,11 @@ module _ (seam : ℕ) (left right : PoolState) (place : ℕ) where
       let lower : Block → Bool = λ block. ltb block.place place in
       let higher : Block → Bool = λ block. ltb place block.place in
       let none : filter lower right ≡ [] =
-          filter_none lower right
-          (All-weaker (IsAfter seam) (λ block. lower block ≡ false) (λ block above. le-ltb block.place place (omega (arith, above))) right after) in
+      filter_none lower right
+      (All-weaker (IsAfter seam) (λ block. lower block ≡ false) (λ block above. le-ltb block.place place (omega (arith, above))) right after) in
       let all : filter higher right ≡ right =
-          filter_all higher right
-          (All-weaker (IsAfter seam) (λ block. higher block ≡ true) (λ block above. lt-ltb place block.place (omega (arith, above))) right after) in
+      filter_all higher right
+      (All-weaker (IsAfter seam) (λ block. higher block ≡ true) (λ block above. lt-ltb place block.place (omega (arith, above))) right after) in
       let new : Block = record { place = place; size = size } in
       ap₂ (λ (xs ys : PoolState). xs ++ new ∷ ys)
       (filter-append lower left right ∙ ap (λ (xs : PoolState). filter lower left ++ xs) none ∙ append-nil (filter lower left))
@@ -81,11 +80,11 @@ module _ (seam : ℕ) (left right : PoolState) (place : ℕ) where
       let lower : Block → Bool = λ block. ltb block.place place in
       let higher : Block → Bool = λ block. ltb place block.place in
       let all : filter lower left ≡ left =
-          filter_all lower left
-          (All-weaker (IsBefore seam) (λ block. lower block ≡ true) (λ block below. lt-ltb block.place place (omega (arith, below.1))) left before) in
+      filter_all lower left
+      (All-weaker (IsBefore seam) (λ block. lower block ≡ true) (λ block below. lt-ltb block.place place (omega (arith, below.1))) left before) in
       let none : filter higher left ≡ [] =
-          filter_none higher left
-          (All-weaker (IsBefore seam) (λ block. higher block ≡ false) (λ block below. le-ltb place block.place (omega (arith, below.1))) left before) in
+      filter_none higher left
+      (All-weaker (IsBefore seam) (λ block. higher block ≡ false) (λ block below. le-ltb place block.place (omega (arith, below.1))) left before) in
       let new : Block = record { place = place; size = size } in
       ap₂ (λ (xs ys : PoolState). xs ++ new ∷ ys)
       (filter-append lower left right ∙ ap (λ (xs : PoolState). xs ++ filter lower right) all)
@@ -97,9 +96,9 @@ module _ (seam : ℕ) (left right : PoolState) (place : ℕ) where
   without_block-left before after =
       let other : Block → Bool = λ block. not (eqb block.place place) in
       let all : filter other right ≡ right =
-          filter_all other right
-          (All-weaker (IsAfter seam) (λ block. other block ≡ true)
-          (λ block above. not_from_false _ (ne_eqb block.place place (λ same. omega (arith, above, same)))) right after) in
+      filter_all other right
+      (All-weaker (IsAfter seam) (λ block. other block ≡ true)
+      (λ block above. not_from_false _ (ne_eqb block.place place (λ same. omega (arith, above, same)))) right after) in
       filter-append other left right ∙ ap (λ (xs : PoolState). filter other left ++ xs) all
 
   -- a block goes from those after the seam
@@ -107,9 +106,9 @@ module _ (seam : ℕ) (left right : PoolState) (place : ℕ) where
   without_block-right after before =
       let other : Block → Bool = λ block. not (eqb block.place place) in
       let all : filter other left ≡ left =
-          filter_all other left
-          (All-weaker (IsBefore seam) (λ block. other block ≡ true)
-          (λ block below. not_from_false _ (ne_eqb block.place place (λ same. omega (arith, below.1, same)))) left before) in
+      filter_all other left
+      (All-weaker (IsBefore seam) (λ block. other block ≡ true)
+      (λ block below. not_from_false _ (ne_eqb block.place place (λ same. omega (arith, below.1, same)))) left before) in
       filter-append other left right ∙ ap (λ (xs : PoolState). xs ++ filter other right) all
 
 -- no block begins at a place at which none of them does

@@ -18,7 +18,6 @@ use Rattle.pool_tree.proofs.TreeLemmas.{kept_from, kept_halves, kept_fits, left_
 -- ---- two halves
 
 module _ (base bytes size : ℕ) (left right : PoolState) where
-
   -- the lowest place of the left half is that of the whole
   pub taken_left : (later : PoolState) (place : ℕ) → 16 ≤ size → All (IsAfter (base + bytes)) right
       → IsTaken base bytes size left later place → IsTaken base (2 * bytes) size (left ++ right) (later ++ right) place
@@ -31,7 +30,7 @@ module _ (base bytes size : ℕ) (left right : PoolState) where
           (apart_from_after (base + bytes) size place taken.is_place.before right after);
     };
     lowest = λ other is_place. elim (cases_lt other place) [
-      inr above ↦ above
+      | inr above ↦ above
       | inl below ↦ taken.lowest other (place_left base bytes left right size other is_place (omega (arith, taken.is_place.before)))
     ];
     joins = ap (λ (live : PoolState). live ++ right) taken.joins
@@ -40,14 +39,13 @@ module _ (base bytes size : ℕ) (left right : PoolState) where
 
   module _ (later_left later : PoolState) (full : IsFull base bytes size left later_left)
       (aligned : IsMultiple (base + bytes) size) (before : All (IsBefore (base + bytes)) left) where
-
     -- where the left half has none, a place of the whole lies in the right one
     in_right : (place : ℕ) → IsPlaceIn base (2 * bytes) (left ++ right) size place → IsPlaceIn (base + bytes) bytes right size place
     in_right place is_place = elim (cases_lt place (base + bytes)) [
-      inr after ↦ place_right base bytes left right size place is_place after
+      | inr after ↦ place_right base bytes left right size place is_place after
       | inl lower ↦
-        absurd (full.none place (place_left base bytes left right size place is_place
-        (ends_before size place (base + bytes) is_place.aligned aligned lower)))
+          absurd (full.none place (place_left base bytes left right size place is_place
+          (ends_before size place (base + bytes) is_place.aligned aligned lower)))
     ]
 
     -- where the left half has none, the lowest place of the right half is that of the whole
@@ -79,7 +77,6 @@ module _ (base bytes size : ℕ) (left right : PoolState) where
     gives_right (Some place) gives = taken_right place gives
 
 module _ (seam : ℕ) (left right : PoolState) (place : ℕ) where
-
   -- a block of the left half is freed
   pub frees_left : (later : PoolState) (result : Result (Unit {0}) NotLive) → place < seam → All (IsAfter seam) right
       → Frees place left later result → Frees place (left ++ right) (later ++ right) result
@@ -89,10 +86,10 @@ module _ (seam : ℕ) (left right : PoolState) (place : ℕ) where
   )
   frees_left later (Err fault) before after frees = (
     λ is_live. elim (live_either left right place is_live) [
-      inl here ↦ frees.0 here
+      | inl here ↦ frees.0 here
       | inr there ↦
-        not_live right place
-        (All-weaker (IsAfter seam) (λ block. block.place ≡ place → ⊥) (λ block above same. omega (arith, above, same)) right after) there
+          not_live right place
+          (All-weaker (IsAfter seam) (λ block. block.place ≡ place → ⊥) (λ block above same. omega (arith, above, same)) right after) there
     ],
     ap (λ (live : PoolState). live ++ right) frees.1,
   )
@@ -106,10 +103,10 @@ module _ (seam : ℕ) (left right : PoolState) (place : ℕ) where
   )
   frees_right later (Err fault) after before frees = (
     λ is_live. elim (live_either left right place is_live) [
-      inr here ↦ frees.0 here
+      | inr here ↦ frees.0 here
       | inl there ↦
-        not_live left place
-        (All-weaker (IsBefore seam) (λ block. block.place ≡ place → ⊥) (λ block below same. omega (arith, below.1, same)) left before) there
+          not_live left place
+          (All-weaker (IsBefore seam) (λ block. block.place ≡ place → ⊥) (λ block below same. omega (arith, below.1, same)) left before) there
     ],
     ap (λ (live : PoolState). left ++ live) frees.1,
   )
@@ -142,10 +139,10 @@ kept_whole level below kept =
 -- below a live node, what the halves make is free
 over_free : (level : ℕ) (below : List Node) → FitsBelow level Live below → node_over level below ≡ Free
 over_free level below fits = elim fits [
-  inl live ↦ ap₂ (joined_node level) live.1 live.2
+  | inl live ↦ ap₂ (joined_node level) live.1 live.2
   | inr joined ↦
-    absurd (true≢false (ap is_live_node joined
-    ∙ joined-not_live level (node_first (left_half level below)) (node_first (right_half level below))))
+      absurd (true≢false (ap is_live_node joined
+      ∙ joined-not_live level (node_first (left_half level below)) (node_first (right_half level below))))
 ]
 
 -- a part that is one live block becomes free
@@ -160,11 +157,10 @@ pub freed_whole : (level base : ℕ) (below : List Node) → IsKept (suc level) 
     × (live_in (suc level) base (Free ∷ below) ≡ without_block (live_in (suc level) base (Live ∷ below)) base)
 freed_whole level base below kept =
     let one = live_in-live level base (Live ∷ below) refl in
-    let empty = free_is_empty (suc level) base (Free ∷ below) (kept_freed level below kept) refl in
-    (
+    let empty = free_is_empty (suc level) base (Free ∷ below) (kept_freed level below kept) refl in (
       subst (λ (live : PoolState). IsLive live base) (sym one) (0, lit< tt, refl),
       empty ∙ sym (cond-false _ _ _ (not_from_true _ (eq-eqb base base refl)))
-      ∙ sym (ap (λ (live : PoolState). without_block live base) one),
+          ∙ sym (ap (λ (live : PoolState). without_block live base) one),
     )
 
 pub other_place : (level base place : ℕ) (below : List Node) → (place ≡ base → ⊥) → IsLive (live_in (suc level) base (Live ∷ below)) place → ⊥

@@ -20,10 +20,10 @@ bytes_rise low zero h =
     subst (λ level. part_bytes low ≤ part_bytes level) none (le_refl (part_bytes low))
 bytes_rise low (suc high) h =
     elim (cases_lt low (suc high)) [
-      inl lt ↦ omega (arith, bytes_rise low high (omega arith))
+      | inl lt ↦ omega (arith, bytes_rise low high (omega arith))
       | inr ge ↦
-        let same : low ≡ suc high = omega arith in
-        subst (λ level. part_bytes low ≤ part_bytes level) same (le_refl (part_bytes low))
+          let same : low ≡ suc high = omega arith in
+          subst (λ level. part_bytes low ≤ part_bytes level) same (le_refl (part_bytes low))
     ]
 
 -- ---- multiples
@@ -45,10 +45,10 @@ bytes_divide low zero h =
     subst (λ level. IsMultiple (part_bytes level) (part_bytes low)) none (multiple_same (part_bytes low))
 bytes_divide low (suc high) h =
     elim (cases_lt low (suc high)) [
-      inl lt ↦ multiple_trans (part_bytes (suc high)) (part_bytes high) (part_bytes low) (2, refl) (bytes_divide low high (omega arith))
+      | inl lt ↦ multiple_trans (part_bytes (suc high)) (part_bytes high) (part_bytes low) (2, refl) (bytes_divide low high (omega arith))
       | inr ge ↦
-        let same : low ≡ suc high = omega arith in
-        subst (λ level. IsMultiple (part_bytes level) (part_bytes low)) same (multiple_same (part_bytes low))
+          let same : low ≡ suc high = omega arith in
+          subst (λ level. IsMultiple (part_bytes level) (part_bytes low)) same (multiple_same (part_bytes low))
     ]
 
 -- a multiple of a unit that begins before another one ends there or before
@@ -99,26 +99,26 @@ size_at n level holds smallest = record {
   floor = omega (arith, bytes_some level);
   holds = holds;
   least = λ other power floor enough. elim (cases_lt other (part_bytes (suc level))) [
-    inr above ↦ above
+    | inr above ↦ above
     | inl below ↦ absurd (too_small other power floor enough below)
   ];
 }
   where
     too_small : (other : ℕ) → IsPowerOfTwo other → 32 ≤ other → n ≤ other → other < part_bytes (suc level) → ⊥
     too_small other power floor enough below = elim (cases_lt power.0 (suc level + 4)) [
-      inr above ↦
-        let more : 2 ^ (suc level + 4) ≤ 2 ^ power.0 = pow_mono above in
-        omega (arith, more, power.1, bytes-pow (suc level))
+      | inr above ↦
+          let more : 2 ^ (suc level + 4) ≤ 2 ^ power.0 = pow_mono above in
+          omega (arith, more, power.1, bytes-pow (suc level))
       | inl before ↦
-        let at_most : power.0 ≤ level + 4 = omega arith in
-        let fewer : 2 ^ power.0 ≤ 2 ^ (level + 4) = pow_mono at_most in
-        let small : other ≤ part_bytes level = omega (arith, fewer, power.1, bytes-pow level) in
-        elim smallest [
-          inl none ↦
-            let bytes : part_bytes level ≡ 16 = ap part_bytes none in
-            omega arith
-          | inr short ↦ omega arith
-        ]
+          let at_most : power.0 ≤ level + 4 = omega arith in
+          let fewer : 2 ^ power.0 ≤ 2 ^ (level + 4) = pow_mono at_most in
+          let small : other ≤ part_bytes level = omega (arith, fewer, power.1, bytes-pow level) in
+          elim smallest [
+            | inl none ↦
+                let bytes : part_bytes level ≡ 16 = ap part_bytes none in
+                omega arith
+            | inr short ↦ omega arith
+          ]
     ]
 
 -- n bytes have one size
@@ -131,7 +131,7 @@ size_up_to : (n level : ℕ) → n ≤ part_bytes (suc level) → (size : ℕ) �
 size_up_to n zero holds = (part_bytes 1, size_at n zero holds (inl refl))
 size_up_to n (suc level) holds =
     elim (cases_lt (part_bytes (suc level)) n) [
-      inl short ↦ (part_bytes (suc (suc level)), size_at n (suc level) holds (inr short))
+      | inl short ↦ (part_bytes (suc (suc level)), size_at n (suc level) holds (inr short))
       | inr enough ↦ size_up_to n level enough
     ]
 
@@ -147,11 +147,11 @@ size_exists n = size_up_to n n (bytes_more n)
 -- a level whose parts are too small for the bytes of an arena is not the top
 pub level_more : (n level : ℕ) → n ≤ 65536 → level ≤ 12 → part_bytes level < n → level + 1 ≤ 12
 level_more n level fits high short = elim (cases_lt level 12) [
-  inl below ↦ omega arith
+  | inl below ↦ omega arith
   | inr top ↦
-    let same : level ≡ 12 = omega arith in
-    let bytes : part_bytes level ≡ 65536 = ap part_bytes same in
-    omega arith
+      let same : level ≡ 12 = omega arith in
+      let bytes : part_bytes level ≡ 65536 = ap part_bytes same in
+      omega arith
 ]
 
 -- the level at which the search stops has the size of the block
@@ -161,6 +161,6 @@ size_found n (suc level) low holds short =
     let below : suc level - 1 ≡ level = omega arith in
     size_at n level holds
     (elim short [
-      inl one ↦ inl (omega arith)
+      | inl one ↦ inl (omega arith)
       | inr few ↦ inr (subst (λ k. part_bytes k < n) below few)
     ])

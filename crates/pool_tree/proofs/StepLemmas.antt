@@ -59,7 +59,6 @@ frees_same place result live live' later later' f g frees =
 -- ---- a part of level `level`, whose halves have level `lower`
 
 module _ (level lower : ℕ) (above : level ≡ suc lower) (nodes : List Node) (long : length nodes ≡ node_count level) where
-
   count_above : node_count level ≡ 1 + 2 * node_count lower
   count_above = ap node_count above
 
@@ -90,7 +89,6 @@ module _ (level lower : ℕ) (above : level ≡ suc lower) (nodes : List Node) (
       ap (live_below lower base) below_is ∙ sym (live_in-below lower base nodes other) ∙ ap (λ n. live_in n base nodes) (sym above)
 
   module _ (later : List Node) (node : Node) (is_over : node ≡ node_over lower later) where
-
     rebuilt : set (put_mid 1 (length nodes - 1) nodes later) 0 node ≡ node_over lower later ∷ later
     rebuilt =
         ap (λ (xs : List Node). set xs 0 node) (written_below nodes later some_nodes) ∙ ap (λ (n : Node). n ∷ later) is_over
@@ -121,7 +119,6 @@ module _ (level lower : ℕ) (above : level ≡ suc lower) (nodes : List Node) (
 
   -- the whole part is taken
   module _ (kept : IsKept level nodes) (full : level ≤ room_in level (node_first nodes)) where
-
     are_free : nodes ≡ Free ∷ drop 1 nodes
     are_free = nodes_are nodes some_nodes ∙ ap (λ (n : Node). n ∷ drop 1 nodes) (full_room_free level nodes kept full)
 
@@ -138,14 +135,13 @@ module _ (level lower : ℕ) (above : level ≡ suc lower) (nodes : List Node) (
     taken_live base part =
         let taken = taken_whole lower base (drop 1 nodes) (subst (λ n. IsPart n base) above part) kept_free_node in
         let same_nodes = subst (λ (xs : List Node). IsTaken base (part_bytes (suc lower)) (part_bytes (suc lower))
-            (live_in (suc lower) base xs) (live_in (suc lower) base (Live ∷ drop 1 nodes)) base) (sym are_free) taken in
+        (live_in (suc lower) base xs) (live_in (suc lower) base (Live ∷ drop 1 nodes)) base) (sym are_free) taken in
         let same_later = subst (λ (xs : List Node). IsTaken base (part_bytes (suc lower)) (part_bytes (suc lower))
-            (live_in (suc lower) base nodes) (live_in (suc lower) base xs) base) (sym (set_first nodes Live some_nodes)) same_nodes in
+        (live_in (suc lower) base nodes) (live_in (suc lower) base xs) base) (sym (set_first nodes Live some_nodes)) same_nodes in
         subst (λ n. IsTaken base (part_bytes n) (part_bytes n) (live_in n base nodes) (live_in n base (set nodes 0 Live)) base) (sym above) same_later
 
   -- the whole part is freed
   module _ (kept : IsKept level nodes) (live : is_live_node (node_first nodes) ≡ true) where
-
     are_live : nodes ≡ Live ∷ drop 1 nodes
     are_live = nodes_are nodes some_nodes ∙ ap (λ (n : Node). n ∷ drop 1 nodes) (live_node (node_first nodes) live)
 
@@ -163,7 +159,7 @@ module _ (level lower : ℕ) (above : level ≡ suc lower) (nodes : List Node) (
     pub freed_live : (base place : ℕ) (done : Unit {0}) → place ≡ base → Frees place (live_in level base nodes) (live_in level base (set nodes 0 Free)) (Ok done)
     freed_live base place done same =
         let later : live_in (suc lower) base (Free ∷ drop 1 nodes) ≡ live_in level base (set nodes 0 Free) =
-            ap (live_in (suc lower) base) (sym (set_first nodes Free some_nodes)) ∙ ap (λ n. live_in n base (set nodes 0 Free)) (sym above) in
+        ap (live_in (suc lower) base) (sym (set_first nodes Free some_nodes)) ∙ ap (λ n. live_in n base (set nodes 0 Free)) (sym above) in
         subst (λ p. Frees p (live_in level base nodes) (live_in level base (set nodes 0 Free)) (Ok done)) (sym same)
         (frees_same base (Ok done) _ _ _ _ (same_live base) later (freed_whole lower base (drop 1 nodes) kept_live_node))
 
@@ -187,7 +183,6 @@ halves_kept level left right long kept_left kept_right = (
 )
 
 module _ (level base : ℕ) (left right later : List Node) (long : length left ≡ node_count level) (long_later : length later ≡ node_count level) where
-
   pub gives_first : (wanted : ℕ) (result : Option ℕ) → is_some result ≡ true
       → Gives base (part_bytes level) (part_bytes wanted) (live_in level base left) (live_in level base later) result
       → Gives base (2 * part_bytes level) (part_bytes wanted) (live_below level base (left ++ right)) (live_below level base (later ++ right)) result
@@ -206,7 +201,7 @@ module _ (level base : ℕ) (left right later : List Node) (long : length left �
   gives_second wanted right_later (Some place) result some fits part first gives = absurd (true≢false some)
   gives_second wanted right_later None result some fits part first gives =
       let aligned : IsMultiple (base + part_bytes level) (part_bytes wanted) =
-          multiple_trans (base + part_bytes level) (part_bytes level) (part_bytes wanted) (part_right level base part).aligned (bytes_divide wanted level fits) in
+      multiple_trans (base + part_bytes level) (part_bytes level) (part_bytes wanted) (part_right level base part).aligned (bytes_divide wanted level fits) in
       gives_same base (part_bytes wanted) result (2 * part_bytes level) (2 * part_bytes level) _ _ _ _ refl
       (sym (halves_live level base left right long)) (sym (halves_live level base later right_later long_later))
       (gives_right base (part_bytes level) (part_bytes wanted) (live_in level base left) (live_in level (base + part_bytes level) right)

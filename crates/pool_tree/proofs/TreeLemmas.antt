@@ -43,14 +43,13 @@ joined_short level wanted a b w h = (omega arith, omega arith)
 pub free_below : (level : ℕ) (node : Node) (below : List Node) → FitsBelow level node below → node ≡ Free
     → (node_first (left_half level below) ≡ Free) × (node_first (right_half level below) ≡ Free)
 free_below level node below fits free = elim fits [
-  inl live ↦ (live.1, live.2)
+  | inl live ↦ (live.1, live.2)
   | inr joined ↦ joined_free level (node_first (left_half level below)) (node_first (right_half level below)) (sym joined ∙ free)
 ]
 
 -- ---- one step down
 
 module _ (level base : ℕ) (nodes : List Node) where
-
   pub live_in-live : node_first nodes ≡ Live → live_in (suc level) base nodes ≡ record { place = base; size = part_bytes (suc level) } ∷ []
   unfolding live_in
   live_in-live live = cond-true _ _ _ (ap is_live_node live)
@@ -90,12 +89,12 @@ room_most zero nodes kept = subst (λ node. room_in 0 node ≤ 0) (sym (kept_zer
 room_most (suc level) nodes kept =
     let halves = kept_halves level nodes kept in
     elim (kept_fits level nodes kept) [
-      inl live ↦ subst (λ node. room_in (suc level) node ≤ suc level) (sym live.0) (omega arith)
+      | inl live ↦ subst (λ node. room_in (suc level) node ≤ suc level) (sym live.0) (omega arith)
       | inr joined ↦
-        subst (λ node. room_in (suc level) node ≤ suc level) (sym joined)
-        (joined_room level (node_first (left_half level (drop 1 nodes))) (node_first (right_half level (drop 1 nodes)))
-        (room_most level (left_half level (drop 1 nodes)) halves.0)
-        (room_most level (right_half level (drop 1 nodes)) halves.1))
+          subst (λ node. room_in (suc level) node ≤ suc level) (sym joined)
+          (joined_room level (node_first (left_half level (drop 1 nodes))) (node_first (right_half level (drop 1 nodes)))
+          (room_most level (left_half level (drop 1 nodes)) halves.0)
+          (room_most level (right_half level (drop 1 nodes)) halves.1))
     ]
 
 -- where the room is the whole, the node is free
@@ -105,16 +104,16 @@ full_room_free zero nodes kept full = kept_zero nodes kept
 full_room_free (suc level) nodes kept full =
     let halves = kept_halves level nodes kept in
     elim (kept_fits level nodes kept) [
-      inl live ↦
-        let none : room_in (suc level) (node_first nodes) ≡ 0 = ap (room_in (suc level)) live.0 in
-        absurd (omega arith)
+      | inl live ↦
+          let none : room_in (suc level) (node_first nodes) ≡ 0 = ap (room_in (suc level)) live.0 in
+          absurd (omega arith)
       | inr joined ↦
-        let room : room_in (suc level) (node_first nodes) ≡ room_in (suc level) (node_over level (drop 1 nodes)) = ap (room_in (suc level)) joined in
-        joined
-        ∙ joined_full level (node_first (left_half level (drop 1 nodes))) (node_first (right_half level (drop 1 nodes)))
-        (room_most level (left_half level (drop 1 nodes)) halves.0)
-        (room_most level (right_half level (drop 1 nodes)) halves.1)
-        (subst (λ n. suc level ≤ n) room full)
+          let room : room_in (suc level) (node_first nodes) ≡ room_in (suc level) (node_over level (drop 1 nodes)) = ap (room_in (suc level)) joined in
+          joined
+          ∙ joined_full level (node_first (left_half level (drop 1 nodes))) (node_first (right_half level (drop 1 nodes)))
+          (room_most level (left_half level (drop 1 nodes)) halves.0)
+          (room_most level (right_half level (drop 1 nodes)) halves.1)
+          (subst (λ n. suc level ≤ n) room full)
     ]
 
 -- a part whose node is free has no live block
@@ -141,19 +140,19 @@ within_part zero base nodes = All-nil (IsWithin base 16)
 within_part (suc level) base nodes =
     let whole : Block → Type 0 = IsWithin base (part_bytes (suc level)) in
     elim (cases_Bool (is_live_node (node_first nodes))) [
-      inl live ↦
-        subst (All whole) (sym (cond-true _ _ _ live))
-        (All-cons whole _ [] record { from = le_refl base; to = le_refl (base + part_bytes (suc level)); some = bytes_some (suc level) } (All-nil whole))
+      | inl live ↦
+          subst (All whole) (sym (cond-true _ _ _ live))
+          (All-cons whole _ [] record { from = le_refl base; to = le_refl (base + part_bytes (suc level)); some = bytes_some (suc level) } (All-nil whole))
       | inr other ↦
-        subst (All whole) (sym (live_in-below level base nodes other))
-        (All-append whole (live_in level base (left_half level (drop 1 nodes)))
-        (live_in level (base + part_bytes level) (right_half level (drop 1 nodes)))
-        (All-weaker (IsWithin base (part_bytes level)) whole
-        (λ block h. record { from = h.from; to = omega (arith, h.to); some = h.some })
-        _ (within_part level base (left_half level (drop 1 nodes))))
-        (All-weaker (IsWithin (base + part_bytes level) (part_bytes level)) whole
-        (λ block h. record { from = omega (arith, h.from); to = omega (arith, h.to); some = h.some })
-        _ (within_part level (base + part_bytes level) (right_half level (drop 1 nodes)))))
+          subst (All whole) (sym (live_in-below level base nodes other))
+          (All-append whole (live_in level base (left_half level (drop 1 nodes)))
+          (live_in level (base + part_bytes level) (right_half level (drop 1 nodes)))
+          (All-weaker (IsWithin base (part_bytes level)) whole
+          (λ block h. record { from = h.from; to = omega (arith, h.to); some = h.some })
+          _ (within_part level base (left_half level (drop 1 nodes))))
+          (All-weaker (IsWithin (base + part_bytes level) (part_bytes level)) whole
+          (λ block h. record { from = omega (arith, h.from); to = omega (arith, h.to); some = h.some })
+          _ (within_part level (base + part_bytes level) (right_half level (drop 1 nodes)))))
     ]
 
 pub left_is_before : (level base : ℕ) (nodes : List Node) → All (IsBefore (base + part_bytes level)) (live_in level base nodes)
@@ -176,20 +175,20 @@ apart_is_free (suc level) base nodes kept apart =
     let left : List Node = left_half level (drop 1 nodes) in
     let right : List Node = right_half level (drop 1 nodes) in
     elim (kept_fits level nodes kept) [
-      inl live ↦
-        let one = subst (All (IsApart (part_bytes (suc level)) base)) (live_in-live level base nodes live.0) apart in
-        absurd (not_apart (part_bytes (suc level)) (bytes_some (suc level))
-        (All-head (IsApart (part_bytes (suc level)) base) _ [] one))
+      | inl live ↦
+          let one = subst (All (IsApart (part_bytes (suc level)) base)) (live_in-live level base nodes live.0) apart in
+          absurd (not_apart (part_bytes (suc level)) (bytes_some (suc level))
+          (All-head (IsApart (part_bytes (suc level)) base) _ [] one))
       | inr joined ↦
-        let both = subst (All (IsApart (part_bytes (suc level)) base)) (live_in-joined level base nodes joined) apart in
-        let left_free = apart_is_free level base left halves.0
-            (apart_within (part_bytes (suc level)) base (part_bytes level) base (le_refl base) (omega arith) (live_in level base left)
-            (All-left (IsApart (part_bytes (suc level)) base) (live_in level base left) (live_in level (base + part_bytes level) right) both)) in
-        let right_free = apart_is_free level (base + part_bytes level) right halves.1
-            (apart_within (part_bytes (suc level)) base (part_bytes level) (base + part_bytes level) (omega arith) (omega arith)
-            (live_in level (base + part_bytes level) right)
-            (All-right (IsApart (part_bytes (suc level)) base) (live_in level base left) (live_in level (base + part_bytes level) right) both)) in
-        joined ∙ ap₂ (joined_node level) left_free right_free
+          let both = subst (All (IsApart (part_bytes (suc level)) base)) (live_in-joined level base nodes joined) apart in
+          let left_free = apart_is_free level base left halves.0
+          (apart_within (part_bytes (suc level)) base (part_bytes level) base (le_refl base) (omega arith) (live_in level base left)
+          (All-left (IsApart (part_bytes (suc level)) base) (live_in level base left) (live_in level (base + part_bytes level) right) both)) in
+          let right_free = apart_is_free level (base + part_bytes level) right halves.1
+          (apart_within (part_bytes (suc level)) base (part_bytes level) (base + part_bytes level) (omega arith) (omega arith)
+          (live_in level (base + part_bytes level) right)
+          (All-right (IsApart (part_bytes (suc level)) base) (live_in level base left) (live_in level (base + part_bytes level) right) both)) in
+          joined ∙ ap₂ (joined_node level) left_free right_free
     ]
   where
     not_apart : (bytes : ℕ) → 16 ≤ bytes → IsApart bytes base (record { place = base; size = bytes }) → ⊥
@@ -197,7 +196,6 @@ apart_is_free (suc level) base nodes kept apart =
 
 -- the left half of a place in a part, where the place lies before the seam
 module _ (base bytes : ℕ) (left right : PoolState) (size place : ℕ) (is_place : IsPlaceIn base (2 * bytes) (left ++ right) size place) where
-
   pub place_left : place + size ≤ base + bytes → IsPlaceIn base bytes left size place
   place_left before = record {
     after = is_place.after;
@@ -222,49 +220,51 @@ no_room zero base wanted nodes kept aligned short place is_place =
     omega (arith, is_place.after, is_place.before, bytes_rise 1 wanted (omega arith))
 no_room (suc level) base wanted nodes kept aligned short place is_place =
     elim (cases_lt (suc level) wanted) [
-      inl larger ↦ omega (arith, is_place.after, is_place.before, bytes_some level, bytes_rise (suc (suc level)) wanted larger)
+      | inl larger ↦ omega (arith, is_place.after, is_place.before, bytes_some level, bytes_rise (suc (suc level)) wanted larger)
       | inr fits ↦ elim (kept_fits level nodes kept) [
-        inl live ↦
-          let one = subst (All (IsApart (part_bytes wanted) place)) (live_in-live level base nodes live.0) is_place.apart in
-          elim (All-head (IsApart (part_bytes wanted) place) _ [] one) [
-            inl before ↦ omega (arith, is_place.after, bytes_some wanted)
-            | inr after ↦ omega (arith, is_place.before, bytes_some wanted)
-          ]
+        | inl live ↦
+            let one = subst (All (IsApart (part_bytes wanted) place)) (live_in-live level base nodes live.0) is_place.apart in
+            elim (All-head (IsApart (part_bytes wanted) place) _ [] one) [
+              | inl before ↦ omega (arith, is_place.after, bytes_some wanted)
+              | inr after ↦ omega (arith, is_place.before, bytes_some wanted)
+            ]
         | inr joined ↦
-          let room : room_in (suc level) (node_over level (drop 1 nodes)) < wanted =
-              subst (λ node. room_in (suc level) node < wanted) joined short in
-          elim (cases_lt wanted (suc level)) [
-            inl smaller ↦
-              let rooms = joined_short level wanted (node_first left) (node_first right) (omega arith) room in
-              let inside : IsPlaceIn base (2 * part_bytes level) (live_in level base left ++ live_in level (base + part_bytes level) right) (part_bytes wanted) place =
+            let room : room_in (suc level) (node_over level (drop 1 nodes)) < wanted =
+            subst (λ node. room_in (suc level) node < wanted) joined short in
+            elim (cases_lt wanted (suc level)) [
+              | inl smaller ↦
+                  let rooms = joined_short level wanted (node_first left) (node_first right) (omega arith) room in
+                  let inside : IsPlaceIn base (2 * part_bytes level) (live_in level base left ++ live_in level (base + part_bytes level) right) (part_bytes wanted) place =
                   subst (λ live. IsPlaceIn base (2 * part_bytes level) live (part_bytes wanted) place) (live_in-joined level base nodes joined) is_place in
-              let halved = multiple_trans base (part_bytes (suc level)) (part_bytes level) aligned (2, refl) in
-              let seam = multiple_add base (part_bytes level) (part_bytes level) halved (1, omega arith) in
-              elim (cases_lt place (base + part_bytes level)) [
-                inl before ↦
-                  no_room level base wanted left halves.0 halved rooms.0 place
-                  (place_left base (part_bytes level) (live_in level base left) (live_in level (base + part_bytes level) right) (part_bytes wanted) place inside
-                  (ends_before (part_bytes wanted) place (base + part_bytes level) is_place.aligned
-                  (multiple_trans (base + part_bytes level) (part_bytes level) (part_bytes wanted) seam (bytes_divide wanted level (omega arith))) before))
-                | inr after ↦
-                  no_room level (base + part_bytes level) wanted right halves.1 seam rooms.1 place
-                  (place_right base (part_bytes level) (live_in level base left) (live_in level (base + part_bytes level) right) (part_bytes wanted) place inside after)
-              ]
-            | inr whole ↦
-              let level_is : wanted ≡ suc level = omega arith in
-              let same : part_bytes wanted ≡ part_bytes (suc level) = ap part_bytes level_is in
-              let free : node_first nodes ≡ Free = apart_is_free (suc level) base nodes kept
+                  let halved = multiple_trans base (part_bytes (suc level)) (part_bytes level) aligned (2, refl) in
+                  let seam = multiple_add base (part_bytes level) (part_bytes level) halved (1, omega arith) in
+                  elim (cases_lt place (base + part_bytes level)) [
+                    | inl before ↦
+                        no_room level base wanted left halves.0 halved rooms.0 place
+                        (place_left base (part_bytes level) (live_in level base left) (live_in level (base + part_bytes level) right) (part_bytes wanted) place inside
+                        (ends_before (part_bytes wanted) place (base + part_bytes level) is_place.aligned
+                        (multiple_trans (base + part_bytes level) (part_bytes level) (part_bytes wanted) seam (bytes_divide wanted level (omega arith))) before))
+                    | inr after ↦
+                        no_room level (base + part_bytes level) wanted right halves.1 seam rooms.1 place
+                        (place_right base (part_bytes level) (live_in level base left) (live_in level (base + part_bytes level) right) (part_bytes wanted) place inside after)
+                  ]
+              | inr whole ↦
+                  let level_is : wanted ≡ suc level = omega arith in
+                  let same : part_bytes wanted ≡ part_bytes (suc level) = ap part_bytes level_is in
+                  let free : node_first nodes ≡ Free = apart_is_free (suc level) base nodes kept
                   (apart_within (part_bytes wanted) place (part_bytes (suc level)) base
                   (omega (arith, is_place.before, same)) (omega (arith, is_place.after, same)) (live_in (suc level) base nodes) is_place.apart) in
-              let room_is : room_in (suc level) (node_first nodes) ≡ suc level = ap (room_in (suc level)) free in
-              omega (arith, room_is, short)
-          ]
+                  let room_is : room_in (suc level) (node_first nodes) ≡ suc level = ap (room_in (suc level)) free in
+                  omega (arith, room_is, short)
+            ]
       ]
     ]
   where
     left : List Node
     left = left_half level (drop 1 nodes)
+
     right : List Node
     right = right_half level (drop 1 nodes)
+
     halves : IsKeptBelow level (drop 1 nodes)
     halves = kept_halves level nodes kept

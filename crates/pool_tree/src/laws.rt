@@ -8,8 +8,7 @@ use crate::PoolTree;
 pub fn handed_out_blocks()
     ensures aligned { HandedOutIsAligned }
     ensures apart { HandedOutIsApart }
-{
-}
+{}
 
 /// The live blocks of an arena lie in it, aligned to their sizes, in rising order of place, and apart.
 pub fn live_blocks(pool: &PoolTree)
@@ -21,12 +20,10 @@ pub fn live_blocks(pool: &PoolTree)
 /// What was freed can be had again: a block of its size may lie there.
 pub fn freed_blocks()
     ensures { FreedIsAPlace }
-{
-}
+{}
 
 /// Each count of bytes has one block size.
 pub fn block_sizes()
     ensures each { EachHasASize }
     ensures one { SizeIsOne }
-{
-}
+{}

@@ -153,9 +153,7 @@ struct Plain {
 impl Plain {
     fn is_free(&self, place: u64, size: u64) -> bool {
         let end = place.saturating_add(size);
-        self.live
-            .iter()
-            .all(|(at, long)| end <= *at || at.saturating_add(*long) <= place)
+        self.live.iter().all(|(at, long)| end <= *at || at.saturating_add(*long) <= place)
     }
 
     fn lowest(&self, size: u64) -> Option<u64>

@@ -15,10 +15,9 @@ give-returns-then-level-eq0-clause-frees t c =
 pub give-returns-then-place-base-clause-frees : goal.give-returns-then-place-base-clause-frees
 give-returns-then-place-base-clause-frees t c =
     let above : c.args.level ≡ suc (c.args.level - 1) = omega arith in
-    let live : is_live_node (node_first c.args.nodes.now) ≡ true = sym (c.is_live.ensures ∙ ap is_live_node c.first_of.ensures) ∙ c.if-is_live.true in
-    (
+    let live : is_live_node (node_first c.args.nodes.now) ≡ true = sym (c.is_live.ensures ∙ ap is_live_node c.first_of.ensures) ∙ c.if-is_live.true in (
       other_not_live c.args.level (c.args.level - 1) above c.args.nodes.now c.requires.nodes c.requires.kept live c.args.base c.args.place
-      c.if-place-base.true,
+          c.if-place-base.true,
       refl,
     )
 
@@ -37,8 +36,7 @@ give-returns-then-is_live-clause-frees t c =
 
 pub give-give_below-given-requires : goal.give-give_below-given-requires
 give-give_below-given-requires t c =
-    let above : c.args.level ≡ suc (c.args.level - 1) = omega arith in
-    (
+    let above : c.args.level ≡ suc (c.args.level - 1) = omega arith in (
       search rules,
       (
         below_long c.args.level (c.args.level - 1) above c.args.nodes.now c.requires.nodes,
@@ -86,8 +84,7 @@ pub give_below-give-requires : goal.give_below-give-requires
 give_below-give-requires t c =
     let middle : length c.args.below.now / 2 ≡ node_count c.args.level = omega arith in
     let left_is = c.split_at_mut-left.ensures.front ∙ ap (λ n. take n c.args.below.now) middle in
-    let part : IsPart (suc c.args.level) c.args.base = subst (λ n. IsPart n c.args.base) (add-one c.args.level) c.requires.part in
-    (
+    let part : IsPart (suc c.args.level) c.args.base = subst (λ n. IsPart n c.args.base) (add-one c.args.level) c.requires.part in (
       search rules,
       (
         c.split_at_mut-left.ensures.front_len ∙ middle,
@@ -111,8 +108,7 @@ pub give_below-give-requires-2 : goal.give_below-give-requires-2
 give_below-give-requires-2 t c =
     let middle : length c.args.below.now / 2 ≡ node_count c.args.level = omega arith in
     let right_is = c.split_at_mut-left.ensures.back ∙ ap (λ n. drop n c.args.below.now) middle in
-    let part : IsPart (suc c.args.level) c.args.base = subst (λ n. IsPart n c.args.base) (add-one c.args.level) c.requires.part in
-    (
+    let part : IsPart (suc c.args.level) c.args.base = subst (λ n. IsPart n c.args.base) (add-one c.args.level) c.requires.part in (
       search rules,
       (
         omega (arith, c.split_at_mut-left.ensures.back_len, middle),
@@ -134,8 +130,8 @@ give_below-returns-clause-frees t c =
     let long : length left ≡ node_count c.args.level = c.split_at_mut-left.ensures.front_len ∙ middle in
     let after : c.args.base + part_bytes c.args.level ≤ c.args.place = omega (arith, c.from.ensures, c.bytes_at.ensures) in
     let frees = subst (λ bytes. Frees c.args.place (live_in c.args.level (c.args.base + bytes) right)
-        (live_in c.args.level (c.args.base + bytes) c.give-2.new.nodes) c.give-2.result)
-        (c.from.ensures ∙ c.bytes_at.ensures) c.give-2.ensures.frees in
+    (live_in c.args.level (c.args.base + bytes) c.give-2.new.nodes) c.give-2.result)
+    (c.from.ensures ∙ c.bytes_at.ensures) c.give-2.ensures.frees in
     subst (λ (xs : List Node). Frees c.args.place (live_below c.args.level c.args.base xs)
     (live_below c.args.level c.args.base (left ++ c.give-2.new.nodes)) c.give-2.result) (sym c.split_at_mut-left.ensures.value)
     (frees_second c.args.level c.args.base c.args.place left right c.give-2.new.nodes c.give-2.result long after frees)

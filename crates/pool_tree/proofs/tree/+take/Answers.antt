@@ -40,8 +40,7 @@ pub take-take_below-place-requires : goal.take-take_below-place-requires
 take-take_below-place-requires t c =
     let room : c.room.result ≡ room_in c.args.level (node_first c.args.nodes.now) = c.room.ensures ∙ ap (room_in c.args.level) c.first_of.ensures in
     let most = room_most c.args.level c.args.nodes.now c.requires.kept in
-    let above : c.args.level ≡ suc (c.args.level - 1) = omega arith in
-    (
+    let above : c.args.level ≡ suc (c.args.level - 1) = omega arith in (
       search rules,
       (
         below_long c.args.level (c.args.level - 1) above c.args.nodes.now c.requires.nodes,
@@ -98,8 +97,7 @@ pub take_below-take-found-requires : goal.take_below-take-found-requires
 take_below-take-found-requires t c =
     let middle : length c.args.below.now / 2 ≡ node_count c.args.level = omega arith in
     let left_is = c.split_at_mut-left.ensures.front ∙ ap (λ n. take n c.args.below.now) middle in
-    let part : IsPart (suc c.args.level) c.args.base = subst (λ n. IsPart n c.args.base) (add-one c.args.level) c.requires.part in
-    (
+    let part : IsPart (suc c.args.level) c.args.base = subst (λ n. IsPart n c.args.base) (add-one c.args.level) c.requires.part in (
       search rules,
       (
         c.split_at_mut-left.ensures.front_len ∙ middle,
@@ -126,8 +124,7 @@ pub take_below-take-requires : goal.take_below-take-requires
 take_below-take-requires t c =
     let middle : length c.args.below.now / 2 ≡ node_count c.args.level = omega arith in
     let right_is = c.split_at_mut-left.ensures.back ∙ ap (λ n. drop n c.args.below.now) middle in
-    let part : IsPart (suc c.args.level) c.args.base = subst (λ n. IsPart n c.args.base) (add-one c.args.level) c.requires.part in
-    (
+    let part : IsPart (suc c.args.level) c.args.base = subst (λ n. IsPart n c.args.base) (add-one c.args.level) c.requires.part in (
       search rules,
       (
         omega (arith, c.split_at_mut-left.ensures.back_len, middle),
@@ -154,8 +151,8 @@ take_below-returns-clause-gives t c =
     let long_later : length c.take-found.new.nodes ≡ node_count c.args.level = omega (arith, c.take-found.auto.nodes, long) in
     let none : is_some c.take-found.result ≡ false = search rules in
     let gives = subst (λ bytes. Gives (c.args.base + bytes) (part_bytes c.args.level) (part_bytes c.args.wanted)
-        (live_in c.args.level (c.args.base + bytes) right) (live_in c.args.level (c.args.base + bytes) c.take.new.nodes) c.take.result)
-        c.bytes_at.ensures c.take.ensures.gives in
+    (live_in c.args.level (c.args.base + bytes) right) (live_in c.args.level (c.args.base + bytes) c.take.new.nodes) c.take.result)
+    c.bytes_at.ensures c.take.ensures.gives in
     subst (λ (xs : List Node). Gives c.args.base (2 * part_bytes c.args.level) (part_bytes c.args.wanted) (live_below c.args.level c.args.base xs)
     (live_below c.args.level c.args.base (c.take-found.new.nodes ++ c.take.new.nodes)) c.take.result) (sym c.split_at_mut-left.ensures.value)
     (gives_second c.args.level c.args.base left right c.take-found.new.nodes long long_later c.args.wanted c.take.new.nodes
