@@ -1,23 +1,25 @@
 -- Whole arenas: a new one, and what is true of the live blocks of each.
-use Rattle.std.proofs.Common.{◌≡◌, ◌⊎◌, ℕ, zero, suc, ◌+◌, ◌-◌, ◌<◌, ◌≤◌, Bool, true, not, eqb, refl, sym, ap, ap₂, ◌∙◌, subst, inl, inr, arith}
-use Rattle.std.proofs.Common.{List, [], ◌∷◌, ◌++◌, length, take, drop, filter, All, AllPairs, Contains, get_or, length-append}
+use Rattle.std.proofs.Common.{◌≡◌, ℕ, zero, suc, ◌+◌, ◌-◌, ◌<◌, ◌≤◌, Bool, not, eqb, refl, sym, ap, ap₂, ◌∙◌, subst, inl, inr, arith}
+use Rattle.std.proofs.Common.{List, [], ◌∷◌, ◌++◌, length, drop, filter, All, AllPairs, Contains, get_or, length-append}
 use Rattle.std.proofs.lemmas.Bool.{cases_lt, cases_order, cases_Bool, cond-true, not-true, eqb-false}
 use Rattle.std.proofs.lemmas.List.{get_or_append_left, get_or-append_right}
-use Rattle.std.proofs.lemmas.List.Elements.{All-nil, All-cons, All-head, All-append, All-take, All-drop, All-contains, All-filter, All-get_or}
+use Rattle.std.proofs.lemmas.List.Elements.{All-nil, All-cons, All-head, All-append, All-take, All-drop, All-contains, All-filter}
+use Rattle.std.proofs.lemmas.List.Elements.{All-get_or}
 use Rattle.std.proofs.lemmas.List.Elements.{All-contains_itself, filter_passes, at_from_Contains}
 use Rattle.std.proofs.Common.{lit≤}
 use Rattle.pool_tree.specs.declared.tree.Node.{Node}
 use Rattle.pool_tree.specs.declared.tree.Node.TheVariants.{Free}
 use Rattle.std.proofs.Common.{◌↔◌, Option, Some, None, Result, Ok, Err, IfSome, IfNone, OnOk, OnErr, IsErr}
 use Rattle.std.proofs.lemmas.Bool.{false≢true}
-use Rattle.std.proofs.lemmas.List.Elements.{All-weaker}
 use Rattle.pool_tree.specs.declared.pool.NotLive.{NotLive}
-use Rattle.pool_tree.specs.Pool.{Block, PoolState, IsApart, IsPlace, IsLowestPlace, IsLive, IsBlock, IsBlockSize, IsArena, with_block, without_block}
+use Rattle.pool_tree.specs.Pool.{Block, PoolState, IsApart, IsPlace, IsLowestPlace, IsLive, IsBlock, IsBlockSize, IsArena, with_block}
+use Rattle.pool_tree.specs.Pool.{without_block}
 use Rattle.pool_tree.specs.PoolInside.{IsPart, IsPlaceIn, Gives, Frees}
-use Rattle.pool_tree.specs.TreeInside.{part_bytes, node_first, left_half, right_half, joined_node, is_live_node, IsKept, live_in, AllFree, IsPool, pool_of}
+use Rattle.pool_tree.specs.TreeInside.{part_bytes, node_first, left_half, right_half, joined_node, is_live_node, IsKept, live_in, AllFree}
+use Rattle.pool_tree.specs.TreeInside.{pool_of}
 use Rattle.pool_tree.proofs.SizeLemmas.{bytes_some, bytes-pow, part_left, part_right, size_unique}
-use Rattle.pool_tree.proofs.BlockLemmas.{IsBefore, IsAfter, not_live}
-use Rattle.pool_tree.proofs.TreeLemmas.{kept_from, free_is_empty, live_in-below, left_is_before, part_is_after, IsWithin, within_part}
+use Rattle.pool_tree.proofs.BlockLemmas.{IsBefore, IsAfter}
+use Rattle.pool_tree.proofs.TreeLemmas.{kept_from, free_is_empty, live_in-below, left_is_before, part_is_after}
 
 -- ---- a new arena
 
@@ -34,7 +36,8 @@ kept_free (suc level) nodes all =
     let right = All-drop (λ n. n ≡ Free) _ (drop 1 nodes) below in
     kept_from level nodes (kept_free level (left_half level (drop 1 nodes)) left, kept_free level (right_half level (drop 1 nodes)) right)
     (inr (first_free nodes all
-    ∙ sym (ap₂ (joined_node level) (first_free (left_half level (drop 1 nodes)) left) (first_free (right_half level (drop 1 nodes)) right))))
+    ∙ sym (ap₂ (joined_node level) (first_free (left_half level (drop 1 nodes)) left)
+    (first_free (right_half level (drop 1 nodes)) right))))
 
 pub pool_free : (nodes : List Node) → AllFree nodes → pool_of nodes ≡ []
 unfolding pool_of
@@ -101,8 +104,10 @@ order_in (suc level) base nodes =
           (pairs_append Precedes left right (order_in level base (left_half level (drop 1 nodes)))
           (order_in level (base + part_bytes level) (right_half level (drop 1 nodes)))
           (λ i j d here there.
-          let ends = All-get_or (IsBefore (base + part_bytes level)) left i d here (left_is_before level base (left_half level (drop 1 nodes))) in
-          let begins = All-get_or (IsAfter (base + part_bytes level)) right j d there (part_is_after level (base + part_bytes level) (right_half level (drop 1 nodes))) in
+          let ends = All-get_or (IsBefore (base + part_bytes level)) left i d here
+          (left_is_before level base (left_half level (drop 1 nodes))) in
+          let begins = All-get_or (IsAfter (base + part_bytes level)) right j d there
+          (part_is_after level (base + part_bytes level) (right_half level (drop 1 nodes))) in
           omega (arith, ends.0, begins)))
     ]
 
@@ -150,7 +155,8 @@ freed_is_a_place live block arena has =
 
 -- ---- what the code's calls say of a whole arena
 
-module _ (nodes slice later final : List Node) (state : PoolState) (same : slice ≡ nodes) (last : final ≡ later) (is : pool_of nodes ≡ state) where
+module _ (nodes slice later final : List Node) (state : PoolState)
+    (same : slice ≡ nodes) (last : final ≡ later) (is : pool_of nodes ≡ state) where
   pub pool_gives : (size : ℕ) (result : Option ℕ)
       → Gives 0 (part_bytes 12) size (live_in 12 0 slice) (live_in 12 0 later) result → Gives 0 65536 size state (pool_of final) result
   unfolding pool_of

@@ -1,12 +1,12 @@
 -- Lists of live blocks that are joined: places in them, a block more, a block fewer.
-use Rattle.std.proofs.Common.{◌≡◌, ◌⊎◌, ℕ, zero, suc, ◌+◌, ◌-◌, ◌*◌, ◌<◌, ◌≤◌, Bool, true, false, not, eqb, ltb, refl, sym, ap, ap₂, ◌∙◌, subst, inl, inr, arith}
-use Rattle.std.proofs.Common.{List, [], ◌∷◌, ◌++◌, length, take, drop, map, filter, All, Contains, AllPairs, get_or, append_assoc, append-nil}
-use Rattle.std.proofs.Common.{le_refl, lt-ltb, le-ltb, eq-eqb, ne_eqb, take_at, drop_at}
-use Rattle.std.proofs.lemmas.Bool.{cases_lt, cond-true, cond-false, not_from_false, not_from_true, not-true, eqb-true, eqb-false}
-use Rattle.std.proofs.lemmas.List.{map-append, get_or_append_left, get_or-append_right, length-append}
-use Rattle.std.proofs.lemmas.List.Elements.{All-nil, All-cons, All-head, All-tail, All-append, All-weaker, All-take, All-drop, All-map, All-contains}
+use Rattle.std.proofs.Common.{◌≡◌, ◌⊎◌, ℕ, ◌+◌, ◌<◌, ◌≤◌, Bool, true, false, not, eqb, ltb, refl, sym, ap, ap₂, ◌∙◌, subst, inl, inr, arith}
+use Rattle.std.proofs.Common.{List, [], ◌∷◌, ◌++◌, length, map, filter, All, Contains, append_assoc, append-nil}
+use Rattle.std.proofs.Common.{lt-ltb, le-ltb, ne_eqb, take_at, drop_at}
+use Rattle.std.proofs.lemmas.Bool.{cond-true, cond-false, not_from_false}
+use Rattle.std.proofs.lemmas.List.{map-append}
+use Rattle.std.proofs.lemmas.List.Elements.{All-head, All-tail, All-weaker, All-take, All-drop, All-map, All-contains}
 use Rattle.std.proofs.lemmas.List.Elements.{filter-append, Contains-append_left, Contains-append_right, Contains-append_cases}
-use Rattle.pool_tree.specs.Pool.{Block, PoolState, IsMultiple, IsApart, IsLive, with_block, without_block}
+use Rattle.pool_tree.specs.Pool.{Block, PoolState, IsApart, IsLive, with_block, without_block}
 
 -- what passes stays, and what doesn't goes
 pub filter_all : {X : Type 0} (p : X → Bool) (xs : List X) → All (λ x. p x ≡ true) xs → filter p xs ≡ xs
@@ -50,7 +50,8 @@ pub apart_from_before : (seam size place : ℕ) → seam ≤ place → (live : P
 apart_from_before seam size place after live all =
     All-weaker (IsBefore seam) (IsApart size place) (λ block before. inr (omega (arith, before.0))) live all
 
-pub apart_from_after : (seam size place : ℕ) → place + size ≤ seam → (live : PoolState) → All (IsAfter seam) live → All (IsApart size place) live
+pub apart_from_after : (seam size place : ℕ) → place + size ≤ seam → (live : PoolState) → All (IsAfter seam) live
+    → All (IsApart size place) live
 apart_from_after seam size place before live all =
     All-weaker (IsAfter seam) (IsApart size place) (λ block after. inl (omega (arith, after))) live all
 
@@ -63,10 +64,12 @@ module _ (seam : ℕ) (left right : PoolState) (place : ℕ) where
       let higher : Block → Bool = λ block. ltb place block.place in
       let none : filter lower right ≡ [] =
       filter_none lower right
-      (All-weaker (IsAfter seam) (λ block. lower block ≡ false) (λ block above. le-ltb block.place place (omega (arith, above))) right after) in
+      (All-weaker (IsAfter seam) (λ block. lower block ≡ false)
+      (λ block above. le-ltb block.place place (omega (arith, above))) right after) in
       let all : filter higher right ≡ right =
       filter_all higher right
-      (All-weaker (IsAfter seam) (λ block. higher block ≡ true) (λ block above. lt-ltb place block.place (omega (arith, above))) right after) in
+      (All-weaker (IsAfter seam) (λ block. higher block ≡ true)
+      (λ block above. lt-ltb place block.place (omega (arith, above))) right after) in
       let new : Block = record { place = place; size = size } in
       ap₂ (λ (xs ys : PoolState). xs ++ new ∷ ys)
       (filter-append lower left right ∙ ap (λ (xs : PoolState). filter lower left ++ xs) none ∙ append-nil (filter lower left))
@@ -81,10 +84,12 @@ module _ (seam : ℕ) (left right : PoolState) (place : ℕ) where
       let higher : Block → Bool = λ block. ltb place block.place in
       let all : filter lower left ≡ left =
       filter_all lower left
-      (All-weaker (IsBefore seam) (λ block. lower block ≡ true) (λ block below. lt-ltb block.place place (omega (arith, below.1))) left before) in
+      (All-weaker (IsBefore seam) (λ block. lower block ≡ true)
+      (λ block below. lt-ltb block.place place (omega (arith, below.1))) left before) in
       let none : filter higher left ≡ [] =
       filter_none higher left
-      (All-weaker (IsBefore seam) (λ block. higher block ≡ false) (λ block below. le-ltb place block.place (omega (arith, below.1))) left before) in
+      (All-weaker (IsBefore seam) (λ block. higher block ≡ false)
+      (λ block below. le-ltb place block.place (omega (arith, below.1))) left before) in
       let new : Block = record { place = place; size = size } in
       ap₂ (λ (xs ys : PoolState). xs ++ new ∷ ys)
       (filter-append lower left right ∙ ap (λ (xs : PoolState). xs ++ filter lower right) all)
@@ -102,7 +107,8 @@ module _ (seam : ℕ) (left right : PoolState) (place : ℕ) where
       filter-append other left right ∙ ap (λ (xs : PoolState). filter other left ++ xs) all
 
   -- a block goes from those after the seam
-  pub without_block-right : seam ≤ place → All (IsBefore seam) left → without_block (left ++ right) place ≡ left ++ without_block right place
+  pub without_block-right : seam ≤ place → All (IsBefore seam) left
+      → without_block (left ++ right) place ≡ left ++ without_block right place
   without_block-right after before =
       let other : Block → Bool = λ block. not (eqb block.place place) in
       let all : filter other left ≡ left =
@@ -118,7 +124,8 @@ not_live live place all is_live =
     (All-map (λ q. q ≡ place → ⊥) (λ (block : Block). block.place) live all) is_live refl
 
 places-append : (left right : PoolState)
-    → map (λ (block : Block). block.place) (left ++ right) ≡ map (λ (block : Block). block.place) left ++ map (λ (block : Block). block.place) right
+    → map (λ (block : Block). block.place) (left ++ right)
+    ≡ map (λ (block : Block). block.place) left ++ map (λ (block : Block). block.place) right
 places-append left right = map-append (λ (block : Block). block.place) left right
 
 pub live_left : (left right : PoolState) (place : ℕ) → IsLive left place → IsLive (left ++ right) place

@@ -1,19 +1,20 @@
 -- Taking and freeing a block in a part, by what its halves do.
-use Rattle.std.proofs.Common.{◌≡◌, ◌⊎◌, ℕ, zero, suc, ◌+◌, ◌-◌, ◌*◌, ◌<◌, ◌≤◌, false, not, eqb, refl, sym, ap, ap₂, ◌∙◌, subst, inl, inr, arith}
-use Rattle.std.proofs.Common.{List, [], ◌∷◌, ◌++◌, length, drop, map, All, Option, Some, None, Result, Ok, Err, le_refl, eq-eqb, lit<}
+use Rattle.std.proofs.Common.{◌≡◌, ℕ, suc, ◌+◌, ◌*◌, ◌<◌, ◌≤◌, refl, sym, ap, ap₂, ◌∙◌, subst, inl, inr, arith}
+use Rattle.std.proofs.Common.{List, [], ◌∷◌, ◌++◌, All, Option, Some, None, Result, Ok, Err, le_refl, eq-eqb, lit<}
 use Rattle.std.proofs.lemmas.Bool.{cases_lt, not_from_true, cond-false, true≢false}
 use Rattle.std.proofs.lemmas.List.Elements.{All-nil, All-cons, All-append, All-weaker}
 use Rattle.pool_tree.specs.declared.pool.NotLive.{NotLive}
 use Rattle.pool_tree.specs.declared.tree.Node.{Node}
-use Rattle.pool_tree.specs.declared.tree.Node.TheVariants.{Free, Live, Halved}
+use Rattle.pool_tree.specs.declared.tree.Node.TheVariants.{Free, Live}
 use Rattle.pool_tree.specs.Pool.{Block, PoolState, IsMultiple, IsApart, IsLive, with_block, without_block}
 use Rattle.pool_tree.specs.PoolInside.{IsPlaceIn, IsTaken, IsFull, IsPart, Gives, Frees}
-use Rattle.pool_tree.specs.TreeInside.{part_bytes, node_first, room_in, left_half, right_half, joined_node, node_over, FitsBelow, is_live_node, IsKept, IsKeptBelow, live_in, live_below}
-use Rattle.pool_tree.proofs.SizeLemmas.{bytes_some, bytes_divide, ends_before, multiple_trans, part_left, part_right}
+use Rattle.pool_tree.specs.TreeInside.{part_bytes, node_first, left_half, right_half, joined_node, node_over, FitsBelow, is_live_node}
+use Rattle.pool_tree.specs.TreeInside.{IsKept, IsKeptBelow, live_in}
+use Rattle.pool_tree.proofs.SizeLemmas.{ends_before}
 use Rattle.pool_tree.proofs.BlockLemmas.{IsBefore, IsAfter, apart_from_before, apart_from_after, with_block-left, with_block-right}
 use Rattle.pool_tree.proofs.BlockLemmas.{without_block-left, without_block-right, not_live, live_left, live_right, live_either}
-use Rattle.pool_tree.proofs.TreeLemmas.{place_left, place_right, free_is_empty, full_room_free, live_in-live, live_in-joined, live_in-below}
-use Rattle.pool_tree.proofs.TreeLemmas.{kept_from, kept_halves, kept_fits, left_is_before, part_is_after, no_room, free_below, joined-not_live}
+use Rattle.pool_tree.proofs.TreeLemmas.{place_left, place_right, free_is_empty, live_in-live}
+use Rattle.pool_tree.proofs.TreeLemmas.{kept_from, kept_halves, kept_fits, free_below, joined-not_live}
 
 -- ---- two halves
 
@@ -106,7 +107,8 @@ module _ (seam : ℕ) (left right : PoolState) (place : ℕ) where
       | inr here ↦ frees.0 here
       | inl there ↦
           not_live left place
-          (All-weaker (IsBefore seam) (λ block. block.place ≡ place → ⊥) (λ block below same. omega (arith, below.1, same)) left before) there
+          (All-weaker (IsBefore seam) (λ block. block.place ≡ place → ⊥)
+          (λ block below same. omega (arith, below.1, same)) left before) there
     ],
     ap (λ (live : PoolState). left ++ live) frees.1,
   )
@@ -163,11 +165,13 @@ freed_whole level base below kept =
           ∙ sym (ap (λ (live : PoolState). without_block live base) one),
     )
 
-pub other_place : (level base place : ℕ) (below : List Node) → (place ≡ base → ⊥) → IsLive (live_in (suc level) base (Live ∷ below)) place → ⊥
+pub other_place : (level base place : ℕ) (below : List Node) → (place ≡ base → ⊥)
+    → IsLive (live_in (suc level) base (Live ∷ below)) place → ⊥
 other_place level base place below other is_live =
     let one = live_in-live level base (Live ∷ below) refl in
     not_live (record { place = base; size = part_bytes (suc level) } ∷ []) place
-    (All-cons (λ (block : Block). block.place ≡ place → ⊥) _ [] (λ same. other (sym same)) (All-nil (λ (block : Block). block.place ≡ place → ⊥)))
+    (All-cons (λ (block : Block). block.place ≡ place → ⊥) _ [] (λ same. other (sym same))
+    (All-nil (λ (block : Block). block.place ≡ place → ⊥)))
     (subst (λ (live : PoolState). IsLive live place) one is_live)
 
 -- ---- a part whose node is made anew

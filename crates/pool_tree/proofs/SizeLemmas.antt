@@ -155,7 +155,8 @@ level_more n level fits high short = elim (cases_lt level 12) [
 ]
 
 -- the level at which the search stops has the size of the block
-pub size_found : (n level : ℕ) → 1 ≤ level → n ≤ part_bytes level → (level ≡ 1) ⊎ (part_bytes (level - 1) < n) → IsBlockSize n (part_bytes level)
+pub size_found : (n level : ℕ) → 1 ≤ level → n ≤ part_bytes level → (level ≡ 1) ⊎ (part_bytes (level - 1) < n)
+    → IsBlockSize n (part_bytes level)
 size_found n zero low holds short = absurd (omega arith)
 size_found n (suc level) low holds short =
     let below : suc level - 1 ≡ level = omega arith in

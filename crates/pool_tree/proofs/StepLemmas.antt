@@ -1,6 +1,7 @@
 -- One step of taking and freeing, on the list of nodes that the code has.
-use Rattle.std.proofs.Common.{◌≡◌, ◌⊎◌, ℕ, zero, suc, ◌+◌, ◌-◌, ◌*◌, ◌/◌, ◌<◌, ◌≤◌, true, false, refl, sym, ap, ap₂, ◌∙◌, subst, inl, inr, arith}
-use Rattle.std.proofs.Common.{List, [], ◌∷◌, ◌++◌, length, take, drop, set, Option, Some, None, is_some, Result, Ok, Err, append-nil, take_at, drop_at, length-drop, add-one}
+use Rattle.std.proofs.Common.{◌≡◌, ℕ, suc, ◌+◌, ◌-◌, ◌*◌, ◌<◌, ◌≤◌, true, false, refl, sym, ap, ap₂, ◌∙◌, subst, arith}
+use Rattle.std.proofs.Common.{List, [], ◌∷◌, ◌++◌, length, take, drop, set, Option, Some, None, is_some, Result, Ok, append-nil, take_at}
+use Rattle.std.proofs.Common.{drop_at, length-drop}
 use Rattle.std.proofs.lemmas.Bool.{true≢false, false≢true}
 use Rattle.std.proofs.lemmas.List.{take_rest, drop_all}
 use borrow.Rule.Slice.PartMut.{put_mid}
@@ -8,10 +9,10 @@ use Rattle.pool_tree.specs.declared.pool.NotLive.{NotLive}
 use Rattle.pool_tree.specs.declared.tree.Node.{Node}
 use Rattle.pool_tree.specs.declared.tree.Node.TheVariants.{Free, Live, Halved}
 use Rattle.pool_tree.specs.Pool.{PoolState, IsMultiple, IsLive}
-use Rattle.pool_tree.specs.PoolInside.{IsTaken, IsFull, IsPart, Gives, Frees}
-use Rattle.pool_tree.specs.TreeInside.{part_bytes, node_count, is_live_node, node_first, room_in, left_half, right_half, node_over}
+use Rattle.pool_tree.specs.PoolInside.{IsTaken, IsPart, Gives, Frees}
+use Rattle.pool_tree.specs.TreeInside.{part_bytes, node_count, is_live_node, node_first, room_in, node_over}
 use Rattle.pool_tree.specs.TreeInside.{IsKept, IsKeptBelow, live_in, live_below}
-use Rattle.pool_tree.proofs.SizeLemmas.{bytes_some, bytes_divide, multiple_trans, part_left, part_right}
+use Rattle.pool_tree.proofs.SizeLemmas.{bytes_some, bytes_divide, multiple_trans, part_right}
 use Rattle.pool_tree.proofs.TreeLemmas.{kept_halves, full_room_free, live_in-below, live_in-joined, left_is_before, part_is_after}
 use Rattle.pool_tree.proofs.PartLemmas.{taken_left, gives_right, frees_left, frees_right, taken_whole, kept_whole, kept_freed, freed_whole}
 use Rattle.pool_tree.proofs.PartLemmas.{other_place, kept_joined}
@@ -104,7 +105,8 @@ module _ (level lower : ℕ) (above : level ≡ suc lower) (nodes : List Node) (
         ∙ ap (λ n. live_in n base (set (put_mid 1 (length nodes - 1) nodes later) 0 node)) (sym above)
 
     pub gives_after : (base size : ℕ) (result : Option ℕ) → is_live_node (node_first nodes) ≡ false
-        → Gives base (2 * part_bytes lower) size (live_below lower base (take (length nodes - 1) (drop 1 nodes))) (live_below lower base later) result
+        → Gives base (2 * part_bytes lower) size (live_below lower base (take (length nodes - 1) (drop 1 nodes)))
+        (live_below lower base later) result
         → Gives base (part_bytes level) size (live_in level base nodes)
         (live_in level base (set (put_mid 1 (length nodes - 1) nodes later) 0 node)) result
     gives_after base size result other gives =
@@ -138,7 +140,8 @@ module _ (level lower : ℕ) (above : level ≡ suc lower) (nodes : List Node) (
         (live_in (suc lower) base xs) (live_in (suc lower) base (Live ∷ drop 1 nodes)) base) (sym are_free) taken in
         let same_later = subst (λ (xs : List Node). IsTaken base (part_bytes (suc lower)) (part_bytes (suc lower))
         (live_in (suc lower) base nodes) (live_in (suc lower) base xs) base) (sym (set_first nodes Live some_nodes)) same_nodes in
-        subst (λ n. IsTaken base (part_bytes n) (part_bytes n) (live_in n base nodes) (live_in n base (set nodes 0 Live)) base) (sym above) same_later
+        subst (λ n. IsTaken base (part_bytes n) (part_bytes n) (live_in n base nodes) (live_in n base (set nodes 0 Live)) base)
+        (sym above) same_later
 
   -- the whole part is freed
   module _ (kept : IsKept level nodes) (live : is_live_node (node_first nodes) ≡ true) where
@@ -156,7 +159,8 @@ module _ (level lower : ℕ) (above : level ≡ suc lower) (nodes : List Node) (
     same_live : (base : ℕ) → live_in (suc lower) base (Live ∷ drop 1 nodes) ≡ live_in level base nodes
     same_live base = ap (live_in (suc lower) base) (sym are_live) ∙ ap (λ n. live_in n base nodes) (sym above)
 
-    pub freed_live : (base place : ℕ) (done : Unit {0}) → place ≡ base → Frees place (live_in level base nodes) (live_in level base (set nodes 0 Free)) (Ok done)
+    pub freed_live : (base place : ℕ) (done : Unit {0}) → place ≡ base
+        → Frees place (live_in level base nodes) (live_in level base (set nodes 0 Free)) (Ok done)
     freed_live base place done same =
         let later : live_in (suc lower) base (Free ∷ drop 1 nodes) ≡ live_in level base (set nodes 0 Free) =
         ap (live_in (suc lower) base) (sym (set_first nodes Free some_nodes)) ∙ ap (λ n. live_in n base (set nodes 0 Free)) (sym above) in
@@ -182,10 +186,12 @@ halves_kept level left right long kept_left kept_right = (
   subst (IsKept level) (sym (drop_at left right (node_count level) long)) kept_right,
 )
 
-module _ (level base : ℕ) (left right later : List Node) (long : length left ≡ node_count level) (long_later : length later ≡ node_count level) where
+module _ (level base : ℕ) (left right later : List Node)
+    (long : length left ≡ node_count level) (long_later : length later ≡ node_count level) where
   pub gives_first : (wanted : ℕ) (result : Option ℕ) → is_some result ≡ true
       → Gives base (part_bytes level) (part_bytes wanted) (live_in level base left) (live_in level base later) result
-      → Gives base (2 * part_bytes level) (part_bytes wanted) (live_below level base (left ++ right)) (live_below level base (later ++ right)) result
+      → Gives base (2 * part_bytes level) (part_bytes wanted) (live_below level base (left ++ right))
+      (live_below level base (later ++ right)) result
   gives_first wanted None some gives = absurd (false≢true some)
   gives_first wanted (Some place) some gives =
       gives_same base (part_bytes wanted) (Some place) (2 * part_bytes level) (2 * part_bytes level) _ _ _ _ refl
@@ -193,29 +199,34 @@ module _ (level base : ℕ) (left right later : List Node) (long : length left �
       (taken_left base (part_bytes level) (part_bytes wanted) (live_in level base left) (live_in level (base + part_bytes level) right)
       (live_in level base later) place (bytes_some wanted) (part_is_after level (base + part_bytes level) right) gives)
 
-  pub gives_second : (wanted : ℕ) (right_later : List Node) (first result : Option ℕ) → is_some first ≡ false → wanted ≤ level → IsPart (suc level) base
+  pub gives_second : (wanted : ℕ) (right_later : List Node) (first result : Option ℕ)
+      → is_some first ≡ false → wanted ≤ level → IsPart (suc level) base
       → Gives base (part_bytes level) (part_bytes wanted) (live_in level base left) (live_in level base later) first
       → Gives (base + part_bytes level) (part_bytes level) (part_bytes wanted) (live_in level (base + part_bytes level) right)
       (live_in level (base + part_bytes level) right_later) result
-      → Gives base (2 * part_bytes level) (part_bytes wanted) (live_below level base (left ++ right)) (live_below level base (later ++ right_later)) result
+      → Gives base (2 * part_bytes level) (part_bytes wanted) (live_below level base (left ++ right))
+      (live_below level base (later ++ right_later)) result
   gives_second wanted right_later (Some place) result some fits part first gives = absurd (true≢false some)
   gives_second wanted right_later None result some fits part first gives =
       let aligned : IsMultiple (base + part_bytes level) (part_bytes wanted) =
-      multiple_trans (base + part_bytes level) (part_bytes level) (part_bytes wanted) (part_right level base part).aligned (bytes_divide wanted level fits) in
+      multiple_trans (base + part_bytes level) (part_bytes level) (part_bytes wanted)
+      (part_right level base part).aligned (bytes_divide wanted level fits) in
       gives_same base (part_bytes wanted) result (2 * part_bytes level) (2 * part_bytes level) _ _ _ _ refl
       (sym (halves_live level base left right long)) (sym (halves_live level base later right_later long_later))
       (gives_right base (part_bytes level) (part_bytes wanted) (live_in level base left) (live_in level (base + part_bytes level) right)
-      (live_in level base later) (live_in level (base + part_bytes level) right_later) first aligned (left_is_before level base left) result gives)
+      (live_in level base later) (live_in level (base + part_bytes level) right_later)
+      first aligned (left_is_before level base left) result gives)
 
   pub frees_first : (place : ℕ) (result : Result (Unit {0}) NotLive) → place < base + part_bytes level
       → Frees place (live_in level base left) (live_in level base later) result
       → Frees place (live_below level base (left ++ right)) (live_below level base (later ++ right)) result
   frees_first place result before frees =
       frees_same place result _ _ _ _ (sym (halves_live level base left right long)) (sym (halves_live level base later right long_later))
-      (frees_left (base + part_bytes level) (live_in level base left) (live_in level (base + part_bytes level) right) place (live_in level base later)
-      result before (part_is_after level (base + part_bytes level) right) frees)
+      (frees_left (base + part_bytes level) (live_in level base left) (live_in level (base + part_bytes level) right) place
+      (live_in level base later) result before (part_is_after level (base + part_bytes level) right) frees)
 
-pub frees_second : (level base place : ℕ) (left right right_later : List Node) (result : Result (Unit {0}) NotLive) → length left ≡ node_count level
+pub frees_second : (level base place : ℕ) (left right right_later : List Node) (result : Result (Unit {0}) NotLive)
+    → length left ≡ node_count level
     → base + part_bytes level ≤ place
     → Frees place (live_in level (base + part_bytes level) right) (live_in level (base + part_bytes level) right_later) result
     → Frees place (live_below level base (left ++ right)) (live_below level base (left ++ right_later)) result

@@ -1,15 +1,15 @@
 -- Nodes and the blocks that they stand for.
-use Rattle.std.proofs.Common.{◌≡◌, ◌⊎◌, ℕ, zero, suc, ◌+◌, ◌-◌, ◌*◌, ◌<◌, ◌≤◌, max, true, false, refl, sym, ap, ap₂, ◌∙◌, subst, inl, inr, arith}
-use Rattle.std.proofs.Common.{List, [], ◌∷◌, ◌++◌, length, take, drop, All, le_refl, zero-le}
-use Rattle.std.proofs.lemmas.Bool.{cases_lt, cond-true, cond-false, cases_Bool, cases_order}
-use Rattle.std.proofs.lemmas.List.Elements.{All-nil, All-cons, All-head, All-append, All-weaker, All-take, All-drop}
+use Rattle.std.proofs.Common.{◌≡◌, ℕ, zero, suc, ◌+◌, ◌*◌, ◌<◌, ◌≤◌, false, refl, sym, ap, ap₂, ◌∙◌, subst, inl, inr, arith}
+use Rattle.std.proofs.Common.{List, [], ◌∷◌, ◌++◌, drop, All, le_refl}
+use Rattle.std.proofs.lemmas.Bool.{cases_lt, cond-true, cond-false, cases_Bool}
+use Rattle.std.proofs.lemmas.List.Elements.{All-nil, All-cons, All-head, All-append, All-weaker}
 use Rattle.pool_tree.specs.declared.tree.Node.{Node}
-use Rattle.pool_tree.specs.declared.tree.Node.TheVariants.{Free, Live, Halved}
-use Rattle.pool_tree.specs.Pool.{Block, PoolState, IsMultiple, IsApart, with_block, without_block}
-use Rattle.pool_tree.specs.PoolInside.{IsPlaceIn, IsPart}
-use Rattle.pool_tree.specs.TreeInside.{part_bytes, is_free_node, is_live_node, node_first, room_in, left_half, right_half, joined_node, node_over}
-use Rattle.pool_tree.specs.TreeInside.{FitsBelow, IsKept, IsKeptBelow, live_in, live_below, AllFree}
-use Rattle.pool_tree.proofs.SizeLemmas.{bytes_some, bytes_rise, bytes_divide, multiple_trans, multiple_add, ends_before, part_left, part_right}
+use Rattle.pool_tree.specs.declared.tree.Node.TheVariants.{Free, Live}
+use Rattle.pool_tree.specs.Pool.{Block, PoolState, IsMultiple, IsApart}
+use Rattle.pool_tree.specs.PoolInside.{IsPlaceIn}
+use Rattle.pool_tree.specs.TreeInside.{part_bytes, is_live_node, node_first, room_in, left_half, right_half, joined_node, node_over}
+use Rattle.pool_tree.specs.TreeInside.{FitsBelow, IsKept, IsKeptBelow, live_in, live_below}
+use Rattle.pool_tree.proofs.SizeLemmas.{bytes_some, bytes_rise, bytes_divide, multiple_trans, multiple_add, ends_before}
 use Rattle.pool_tree.proofs.BlockLemmas.{IsBefore, IsAfter, All-left, All-right, apart_within}
 
 -- ---- one node
@@ -58,7 +58,8 @@ module _ (level base : ℕ) (nodes : List Node) where
   unfolding live_in
   live_in-below other = cond-false _ _ _ other
 
-  pub live_in-joined : node_first nodes ≡ node_over level (drop 1 nodes) → live_in (suc level) base nodes ≡ live_below level base (drop 1 nodes)
+  pub live_in-joined : node_first nodes ≡ node_over level (drop 1 nodes)
+      → live_in (suc level) base nodes ≡ live_below level base (drop 1 nodes)
   live_in-joined joined =
       live_in-below
       (ap is_live_node joined
@@ -108,7 +109,8 @@ full_room_free (suc level) nodes kept full =
           let none : room_in (suc level) (node_first nodes) ≡ 0 = ap (room_in (suc level)) live.0 in
           absurd (omega arith)
       | inr joined ↦
-          let room : room_in (suc level) (node_first nodes) ≡ room_in (suc level) (node_over level (drop 1 nodes)) = ap (room_in (suc level)) joined in
+          let room : room_in (suc level) (node_first nodes) ≡ room_in (suc level) (node_over level (drop 1 nodes)) =
+          ap (room_in (suc level)) joined in
           joined
           ∙ joined_full level (node_first (left_half level (drop 1 nodes))) (node_first (right_half level (drop 1 nodes)))
           (room_most level (left_half level (drop 1 nodes)) halves.0)
@@ -142,7 +144,8 @@ within_part (suc level) base nodes =
     elim (cases_Bool (is_live_node (node_first nodes))) [
       | inl live ↦
           subst (All whole) (sym (cond-true _ _ _ live))
-          (All-cons whole _ [] record { from = le_refl base; to = le_refl (base + part_bytes (suc level)); some = bytes_some (suc level) } (All-nil whole))
+          (All-cons whole _ []
+          record { from = le_refl base; to = le_refl (base + part_bytes (suc level)); some = bytes_some (suc level) } (All-nil whole))
       | inr other ↦
           subst (All whole) (sym (live_in-below level base nodes other))
           (All-append whole (live_in level base (left_half level (drop 1 nodes)))
@@ -162,7 +165,8 @@ left_is_before level base nodes =
 
 pub part_is_after : (level base : ℕ) (nodes : List Node) → All (IsAfter base) (live_in level base nodes)
 part_is_after level base nodes =
-    All-weaker (IsWithin base (part_bytes level)) (IsAfter base) (λ block h. h.from) (live_in level base nodes) (within_part level base nodes)
+    All-weaker (IsWithin base (part_bytes level)) (IsAfter base) (λ block h. h.from)
+    (live_in level base nodes) (within_part level base nodes)
 
 -- ---- no room
 
@@ -183,11 +187,13 @@ apart_is_free (suc level) base nodes kept apart =
           let both = subst (All (IsApart (part_bytes (suc level)) base)) (live_in-joined level base nodes joined) apart in
           let left_free = apart_is_free level base left halves.0
           (apart_within (part_bytes (suc level)) base (part_bytes level) base (le_refl base) (omega arith) (live_in level base left)
-          (All-left (IsApart (part_bytes (suc level)) base) (live_in level base left) (live_in level (base + part_bytes level) right) both)) in
+          (All-left (IsApart (part_bytes (suc level)) base) (live_in level base left)
+          (live_in level (base + part_bytes level) right) both)) in
           let right_free = apart_is_free level (base + part_bytes level) right halves.1
           (apart_within (part_bytes (suc level)) base (part_bytes level) (base + part_bytes level) (omega arith) (omega arith)
           (live_in level (base + part_bytes level) right)
-          (All-right (IsApart (part_bytes (suc level)) base) (live_in level base left) (live_in level (base + part_bytes level) right) both)) in
+          (All-right (IsApart (part_bytes (suc level)) base) (live_in level base left)
+          (live_in level (base + part_bytes level) right) both)) in
           joined ∙ ap₂ (joined_node level) left_free right_free
     ]
   where
@@ -234,26 +240,29 @@ no_room (suc level) base wanted nodes kept aligned short place is_place =
             elim (cases_lt wanted (suc level)) [
               | inl smaller ↦
                   let rooms = joined_short level wanted (node_first left) (node_first right) (omega arith) room in
-                  let inside : IsPlaceIn base (2 * part_bytes level) (live_in level base left ++ live_in level (base + part_bytes level) right) (part_bytes wanted) place =
-                  subst (λ live. IsPlaceIn base (2 * part_bytes level) live (part_bytes wanted) place) (live_in-joined level base nodes joined) is_place in
+                  let inside : IsPlaceIn base (2 * part_bytes level) (lefts ++ rights) (part_bytes wanted) place =
+                  subst (λ live. IsPlaceIn base (2 * part_bytes level) live (part_bytes wanted) place)
+                  (live_in-joined level base nodes joined) is_place in
                   let halved = multiple_trans base (part_bytes (suc level)) (part_bytes level) aligned (2, refl) in
                   let seam = multiple_add base (part_bytes level) (part_bytes level) halved (1, omega arith) in
                   elim (cases_lt place (base + part_bytes level)) [
                     | inl before ↦
                         no_room level base wanted left halves.0 halved rooms.0 place
-                        (place_left base (part_bytes level) (live_in level base left) (live_in level (base + part_bytes level) right) (part_bytes wanted) place inside
+                        (place_left base (part_bytes level) lefts rights (part_bytes wanted) place inside
                         (ends_before (part_bytes wanted) place (base + part_bytes level) is_place.aligned
-                        (multiple_trans (base + part_bytes level) (part_bytes level) (part_bytes wanted) seam (bytes_divide wanted level (omega arith))) before))
+                        (multiple_trans (base + part_bytes level) (part_bytes level) (part_bytes wanted) seam
+                        (bytes_divide wanted level (omega arith))) before))
                     | inr after ↦
                         no_room level (base + part_bytes level) wanted right halves.1 seam rooms.1 place
-                        (place_right base (part_bytes level) (live_in level base left) (live_in level (base + part_bytes level) right) (part_bytes wanted) place inside after)
+                        (place_right base (part_bytes level) lefts rights (part_bytes wanted) place inside after)
                   ]
               | inr whole ↦
                   let level_is : wanted ≡ suc level = omega arith in
                   let same : part_bytes wanted ≡ part_bytes (suc level) = ap part_bytes level_is in
                   let free : node_first nodes ≡ Free = apart_is_free (suc level) base nodes kept
                   (apart_within (part_bytes wanted) place (part_bytes (suc level)) base
-                  (omega (arith, is_place.before, same)) (omega (arith, is_place.after, same)) (live_in (suc level) base nodes) is_place.apart) in
+                  (omega (arith, is_place.before, same)) (omega (arith, is_place.after, same))
+                  (live_in (suc level) base nodes) is_place.apart) in
                   let room_is : room_in (suc level) (node_first nodes) ≡ suc level = ap (room_in (suc level)) free in
                   omega (arith, room_is, short)
             ]
@@ -265,6 +274,12 @@ no_room (suc level) base wanted nodes kept aligned short place is_place =
 
     right : List Node
     right = right_half level (drop 1 nodes)
+
+    lefts : PoolState
+    lefts = live_in level base left
+
+    rights : PoolState
+    rights = live_in level (base + part_bytes level) right
 
     halves : IsKeptBelow level (drop 1 nodes)
     halves = kept_halves level nodes kept

@@ -1,5 +1,6 @@
 -- A pool arena of 65,536 bytes, as its live blocks.
-use Rattle.std.specs.Prelude.{◌≡◌, ◌⊎◌, ℕ, ◌+◌, ◌*◌, ◌≤◌, ◌==◌, not, nat_lt, List, [], ◌∷◌, ◌++◌, map, filter, All, AllPairs, Contains}
+use Rattle.std.specs.Prelude.{◌≡◌, ◌⊎◌, ℕ, ◌+◌, ◌*◌, ◌≤◌, ◌==◌, not, nat_lt, List, ◌∷◌, ◌++◌, map, filter, All}
+use Rattle.std.specs.Prelude.{AllPairs, Contains}
 use Rattle.std.specs.Int.{IsPowerOfTwo}
 
 -- a block of memory: the place of its first byte in the arena, and how many bytes it has

@@ -2,7 +2,8 @@
 use Rattle.std.specs.Prelude.{◌≡◌, ℕ, ◌+◌, ◌≤◌, false, All, Contains}
 use Rattle.mm_base.specs.declared.range.Range.{Range}
 use Rattle.mm_base.specs.Range.{share_a_unit}
-use Rattle.pool_tree.specs.Pool.{Block, PoolState, IsMultiple, IsBlockSize, IsPlace, IsLowestPlace, IsArena, without_block}
+use Rattle.pool_tree.specs.Pool.{Block, PoolState, IsMultiple, IsBlockSize, IsPlace, IsLowestPlace, IsArena}
+use Rattle.pool_tree.specs.Pool.{without_block}
 
 -- the bytes of a block, as a range
 abbrev pub range_of : Block → Range

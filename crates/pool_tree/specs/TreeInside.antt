@@ -4,7 +4,7 @@ use Rattle.std.specs.Prelude.{◌≡◌, ◌⊎◌, ℕ, zero, suc, ◌+◌, ◌
 use Rattle.std.specs.Prelude.{List, [], ◌∷◌, ◌++◌, length, take, drop, All}
 use Rattle.pool_tree.specs.declared.tree.Node.{Node}
 use Rattle.pool_tree.specs.declared.tree.Node.TheVariants.{Free, Live, Halved}
-use Rattle.pool_tree.specs.Pool.{Block, PoolState}
+use Rattle.pool_tree.specs.Pool.{PoolState}
 
 -- the bytes of a part: 16 at level 0, and twice as many a level up
 abbrev pub part_bytes : ℕ → ℕ

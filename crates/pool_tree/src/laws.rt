@@ -1,6 +1,7 @@
 //! What is true of every arena, as empty functions whose clauses say it.
 ghost use Rattle.pool_tree.specs.Pool.{IsArena};
-ghost use Rattle.pool_tree.specs.PoolLaws.{EachHasASize, FreedIsAPlace, HandedOutIsAligned, HandedOutIsApart, SizeIsOne};
+ghost use Rattle.pool_tree.specs.PoolLaws.{EachHasASize, FreedIsAPlace, HandedOutIsAligned, HandedOutIsApart};
+ghost use Rattle.pool_tree.specs.PoolLaws.{SizeIsOne};
 
 use crate::PoolTree;
 

@@ -1,5 +1,5 @@
-//! Floor: memory. It promises the lowest aligned place for each block of a pool arena of 65,536 bytes, and that blocks lie apart.
-//! It never touches the bytes of the arena, takes memory after its making, prints, or starts a thread.
+//! Floor: memory. It promises that each block of a pool arena of 65,536 bytes gets the lowest aligned place, and that live blocks
+//! lie apart. It never touches the bytes of an arena, takes memory after its making, prints, or starts a thread.
 #![tactic(auto)]
 
 pub mod laws;

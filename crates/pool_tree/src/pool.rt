@@ -49,13 +49,14 @@ impl PoolTree {
         Ok(PoolTree { nodes })
     }
 
-    /// Makes the lowest block for n bytes live, and gives its place. Its size is the least power of two that is at least 32 and at
-    /// least n, and its place is a multiple of its size. None where no such block is free. It takes no memory. It costs the
-    /// logarithm of the arena: at most four nodes of each of the 12 levels are looked at.
+    /// Makes the lowest block for n bytes live, and gives its place. Its size is the least power of two that is at
+    /// least 32 and at least n, and its place is a multiple of its size. None where no such block is free. It takes no
+    /// memory. It costs the logarithm of the arena: at most four nodes of each of the 12 levels are looked at.
     pub fn alloc(&mut self, n: u64) -> Option<u32>
         requires { 1 ≤ n }
         ensures lowest { IfSome result (λ place. (size : ℕ) → IsBlockSize n size → IsLowestPlace self.old size place) }
-        ensures joins { IfSome result (λ place. (size : ℕ) → IsBlockSize n size → self.new ≡ with_block self.old place size) }
+        ensures joins { IfSome result (λ place. (size : ℕ)
+            → IsBlockSize n size → self.new ≡ with_block self.old place size) }
         ensures none { (result ≡ None) ↔ ((size place : ℕ) → IsBlockSize n size → ¬ IsPlace self.old size place) }
         ensures unchanged { IfNone result (self.new ≡ self.old) }
     {
@@ -66,8 +67,8 @@ impl PoolTree {
         take(self.nodes.as_mut_slice(), TOP, 0, wanted)
     }
 
-    /// Frees the live block that begins at a place. It takes no memory. It costs the logarithm of the arena: at most three nodes
-    /// of each of the 12 levels are looked at.
+    /// Frees the live block that begins at a place. It takes no memory. It costs the logarithm of the arena: at most
+    /// three nodes of each of the 12 levels are looked at.
     pub fn free(&mut self, place: u64) -> Result<(), NotLive>
         ensures ok { OnOk result (IsLive self.old place × (self.new ≡ without_block self.old place)) }
         ensures not_live { IsErr result ↔ ¬ IsLive self.old place }

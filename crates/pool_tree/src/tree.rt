@@ -1,8 +1,9 @@
-//! The tree of halves. A part of level l has 16 · 2^l bytes and is two halves of the level below. Its node stands first, then the
-//! nodes of its left half and those of its right half. A part of level 0 has no node.
+//! The tree of halves. A part of level l has 16 · 2^l bytes and is two halves of the level below. Its node stands first,
+//! then the nodes of its left half and those of its right half. A part of level 0 has no node.
 ghost use Rattle.std.specs.Prelude.{◌≡◌, ◌+◌, ◌*◌, ◌≤◌, ◌<◌, length};
 ghost use Rattle.pool_tree.specs.PoolInside.{Gives, Frees, IsPart};
-ghost use Rattle.pool_tree.specs.TreeInside.{part_bytes, node_count, node_first, room_in, node_over, IsKept, IsKeptBelow};
+ghost use Rattle.pool_tree.specs.TreeInside.{part_bytes, node_count, node_first, room_in, node_over, IsKept};
+ghost use Rattle.pool_tree.specs.TreeInside.{IsKeptBelow};
 ghost use Rattle.pool_tree.specs.TreeInside.{is_free_node, is_live_node, live_in, live_below};
 
 use crate::NotLive;
@@ -85,7 +86,8 @@ pub fn take(nodes: &mut [Node], level: u8, base: u32, wanted: u8) -> Option<u32>
     requires wanted { 1 ≤ wanted }
     requires part { IsPart level base }
     ensures kept { IsKept level nodes.new }
-    ensures gives { Gives base (part_bytes level) (part_bytes wanted) (live_in level base nodes.old) (live_in level base nodes.new) result }
+    ensures gives { Gives base (part_bytes level) (part_bytes wanted)
+        (live_in level base nodes.old) (live_in level base nodes.new) result }
 {
     if room(first_of(nodes), level) < wanted {
         return None;
@@ -111,7 +113,8 @@ fn take_below(below: &mut [Node], level: u8, base: u32, wanted: u8) -> Option<u3
     requires fits { wanted ≤ level }
     requires part { IsPart (level + 1) base }
     ensures kept { IsKeptBelow level below.new }
-    ensures gives { Gives base (2 * part_bytes level) (part_bytes wanted) (live_below level base below.old) (live_below level base below.new) result }
+    ensures gives { Gives base (2 * part_bytes level) (part_bytes wanted)
+        (live_below level base below.old) (live_below level base below.new) result }
 {
     let middle = below.len() / 2;
     let (left, right) = below.split_at_mut(middle);

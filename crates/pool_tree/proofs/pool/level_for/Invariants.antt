@@ -1,4 +1,4 @@
-use Rattle.std.proofs.Common.{◌≡◌, ◌⊎◌, ◌+◌, ◌-◌, ◌<◌, ◌≤◌}
+use Rattle.std.proofs.Common.{◌≡◌, ◌⊎◌, ◌-◌, ◌<◌, ◌≤◌}
 use Rattle.pool_tree.specs.TreeInside.{part_bytes}
 use Rattle.pool_tree.proofs.pool.level_for.Given as goal
 

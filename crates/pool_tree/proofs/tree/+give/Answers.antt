@@ -1,10 +1,12 @@
-use Rattle.std.proofs.Common.{rules, arith, ◌≡◌, ◌∙◌, sym, ap, subst, suc, ◌+◌, ◌-◌, ◌*◌, ◌/◌, ◌<◌, ◌≤◌, length, take, drop, List, ◌++◌, refl, true, false, add-one}
+use Rattle.std.proofs.Common.{rules, arith, ◌≡◌, ◌∙◌, sym, ap, subst, suc, ◌+◌, ◌-◌, ◌/◌, ◌<◌, ◌≤◌, length, take, drop, List, ◌++◌, refl}
+use Rattle.std.proofs.Common.{true, false, add-one}
 use borrow.Rule.Slice.PartMut.{put_mid}
 use Rattle.pool_tree.specs.declared.tree.Node.{Node}
 use Rattle.pool_tree.specs.PoolInside.{IsPart, Frees}
 use Rattle.pool_tree.specs.TreeInside.{part_bytes, node_count, node_first, IsKept, is_live_node, live_in, live_below}
 use Rattle.pool_tree.proofs.SizeLemmas.{part_left, part_right}
-use Rattle.pool_tree.proofs.StepLemmas.{below_long, kept_below, part_below, some_nodes, written_below, kept_after, frees_after, none_at_zero}
+use Rattle.pool_tree.proofs.StepLemmas.{below_long, kept_below, part_below, some_nodes, written_below, kept_after, frees_after}
+use Rattle.pool_tree.proofs.StepLemmas.{none_at_zero}
 use Rattle.pool_tree.proofs.StepLemmas.{kept_free_again, freed_live, other_not_live, frees_first, frees_second}
 use Rattle.pool_tree.proofs.tree.+give.Goals as goal
 
@@ -15,7 +17,8 @@ give-returns-then-level-eq0-clause-frees t c =
 pub give-returns-then-place-base-clause-frees : goal.give-returns-then-place-base-clause-frees
 give-returns-then-place-base-clause-frees t c =
     let above : c.args.level ≡ suc (c.args.level - 1) = omega arith in
-    let live : is_live_node (node_first c.args.nodes.now) ≡ true = sym (c.is_live.ensures ∙ ap is_live_node c.first_of.ensures) ∙ c.if-is_live.true in (
+    let live : is_live_node (node_first c.args.nodes.now) ≡ true =
+    sym (c.is_live.ensures ∙ ap is_live_node c.first_of.ensures) ∙ c.if-is_live.true in (
       other_not_live c.args.level (c.args.level - 1) above c.args.nodes.now c.requires.nodes c.requires.kept live c.args.base c.args.place
           c.if-place-base.true,
       refl,
@@ -24,13 +27,15 @@ give-returns-then-place-base-clause-frees t c =
 pub give-returns-then-is_live-clause-kept : goal.give-returns-then-is_live-clause-kept
 give-returns-then-is_live-clause-kept t c =
     let above : c.args.level ≡ suc (c.args.level - 1) = omega arith in
-    let live : is_live_node (node_first c.args.nodes.now) ≡ true = sym (c.is_live.ensures ∙ ap is_live_node c.first_of.ensures) ∙ c.if-is_live.true in
+    let live : is_live_node (node_first c.args.nodes.now) ≡ true =
+    sym (c.is_live.ensures ∙ ap is_live_node c.first_of.ensures) ∙ c.if-is_live.true in
     kept_free_again c.args.level (c.args.level - 1) above c.args.nodes.now c.requires.nodes c.requires.kept live
 
 pub give-returns-then-is_live-clause-frees : goal.give-returns-then-is_live-clause-frees
 give-returns-then-is_live-clause-frees t c =
     let above : c.args.level ≡ suc (c.args.level - 1) = omega arith in
-    let live : is_live_node (node_first c.args.nodes.now) ≡ true = sym (c.is_live.ensures ∙ ap is_live_node c.first_of.ensures) ∙ c.if-is_live.true in
+    let live : is_live_node (node_first c.args.nodes.now) ≡ true =
+    sym (c.is_live.ensures ∙ ap is_live_node c.first_of.ensures) ∙ c.if-is_live.true in
     freed_live c.args.level (c.args.level - 1) above c.args.nodes.now c.requires.nodes c.requires.kept live c.args.base c.args.place tt
     c.if-place-base.false
 
@@ -64,7 +69,8 @@ give-bounds-nodes-0-2 t c =
     let above : c.args.level ≡ suc (c.args.level - 1) = omega arith in
     let some = some_nodes c.args.level (c.args.level - 1) above c.args.nodes.now c.requires.nodes in
     let written = ap length (written_below c.args.nodes.now c.give_below-given.new.below some) in
-    let long : 0 < length (put_mid 1 (length c.args.nodes.now - 1) c.args.nodes.now c.give_below-given.new.below) = omega (arith, written) in
+    let long : 0 < length (put_mid 1 (length c.args.nodes.now - 1) c.args.nodes.now c.give_below-given.new.below) =
+    omega (arith, written) in
     search rules
 
 pub give-returns-clause-kept : goal.give-returns-clause-kept
@@ -76,7 +82,8 @@ give-returns-clause-kept t c =
 pub give-returns-clause-frees : goal.give-returns-clause-frees
 give-returns-clause-frees t c =
     let above : c.args.level ≡ suc (c.args.level - 1) = omega arith in
-    let live : is_live_node (node_first c.args.nodes.now) ≡ false = sym (c.is_live.ensures ∙ ap is_live_node c.first_of.ensures) ∙ c.if-is_live.false in
+    let live : is_live_node (node_first c.args.nodes.now) ≡ false =
+    sym (c.is_live.ensures ∙ ap is_live_node c.first_of.ensures) ∙ c.if-is_live.false in
     frees_after c.args.level (c.args.level - 1) above c.args.nodes.now c.requires.nodes c.give_below-given.new.below c.joined-node.result
     c.joined-node.ensures c.args.base c.args.place c.give_below-given.result live c.give_below-given.ensures.frees
 
@@ -102,7 +109,8 @@ give_below-returns-then-place-second-clause-frees t c =
     let before : c.args.place < c.args.base + part_bytes c.args.level = omega (arith, c.from.ensures, c.bytes_at.ensures) in
     subst (λ (xs : List Node). Frees c.args.place (live_below c.args.level c.args.base xs)
     (live_below c.args.level c.args.base (c.give.new.nodes ++ right)) c.give.result) (sym c.split_at_mut-left.ensures.value)
-    (frees_first c.args.level c.args.base left right c.give.new.nodes long long_later c.args.place c.give.result before c.give.ensures.frees)
+    (frees_first c.args.level c.args.base left right c.give.new.nodes long long_later c.args.place
+    c.give.result before c.give.ensures.frees)
 
 pub give_below-give-requires-2 : goal.give_below-give-requires-2
 give_below-give-requires-2 t c =
@@ -116,7 +124,8 @@ give_below-give-requires-2 t c =
           subst (IsKept c.args.level) (sym right_is) c.requires.kept.1,
           (
             omega arith,
-            subst (λ bytes. IsPart c.args.level (c.args.base + bytes)) (sym (c.from.ensures ∙ c.bytes_at.ensures)) (part_right c.args.level c.args.base part),
+            subst (λ bytes. IsPart c.args.level (c.args.base + bytes)) (sym (c.from.ensures ∙ c.bytes_at.ensures))
+                (part_right c.args.level c.args.base part),
           ),
         ),
       ),

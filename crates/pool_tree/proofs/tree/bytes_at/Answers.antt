@@ -1,4 +1,3 @@
-use Rattle.std.proofs.Common.{◌∙◌, sym}
 use Rattle.pool_tree.proofs.SizeLemmas.{bytes_shifted}
 use Rattle.pool_tree.proofs.tree.bytes_at.Goals as goal
 
