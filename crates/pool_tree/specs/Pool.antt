@@ -8,6 +8,10 @@ pub record Block : Type 0 where
   pub place : ℕ
   pub size : ℕ
 
+-- the bytes of an arena
+abbrev pub arena_bytes : ℕ
+arena_bytes = 65536
+
 -- a pool is the list of its live blocks, in rising order of place
 abbrev pub PoolState : Type 0
 PoolState = List Block
@@ -30,7 +34,7 @@ IsApart size place block = (place + size ≤ block.place) ⊎ (block.place + blo
 -- a block of this size may lie at this place: a multiple of the size, within the arena, apart from each live block
 pub record IsPlace (live : PoolState) (size place : ℕ) : Type 0 where
   pub aligned : IsMultiple place size
-  pub within : place + size ≤ 65536
+  pub within : place + size ≤ arena_bytes
   pub apart : All (IsApart size place) live
 
 -- it may lie at this place, and at no lower one
@@ -57,7 +61,7 @@ pub record IsBlock (block : Block) : Type 0 where
   pub power : IsPowerOfTwo block.size
   pub floor : 32 ≤ block.size
   pub aligned : IsMultiple block.place block.size
-  pub within : block.place + block.size ≤ 65536
+  pub within : block.place + block.size ≤ arena_bytes
 
 -- what is true of the live blocks of every arena: each is such a block, and each ends before the next ones begin
 pub record IsArena (live : PoolState) : Type 0 where

@@ -2,7 +2,8 @@
 use Rattle.std.specs.Prelude.{◌≡◌, ℕ, ◌+◌, ◌≤◌, false, All, Contains}
 use Rattle.mm_base.specs.declared.range.Range.{Range}
 use Rattle.mm_base.specs.Range.{share_a_unit}
-use Rattle.pool_tree.specs.Pool.{Block, PoolState, IsMultiple, IsBlockSize, IsPlace, IsLowestPlace, IsArena}
+use Rattle.pool_tree.specs.Pool.{Block, PoolState, arena_bytes, IsMultiple, IsBlockSize, IsPlace, IsLowestPlace}
+use Rattle.pool_tree.specs.Pool.{IsArena}
 use Rattle.pool_tree.specs.Pool.{without_block}
 
 -- the bytes of a block, as a range
@@ -12,7 +13,7 @@ range_of block = record { base = block.place; length = block.size }
 -- a block that is handed out lies in the arena, at a multiple of its size
 abbrev pub HandedOutIsAligned : Type 0
 HandedOutIsAligned = (live : PoolState) (size place : ℕ)
-    → IsLowestPlace live size place → (place + size ≤ 65536) × IsMultiple place size
+    → IsLowestPlace live size place → (place + size ≤ arena_bytes) × IsMultiple place size
 
 -- a block that is handed out has no byte in common with a live one
 abbrev pub HandedOutIsApart : Type 0

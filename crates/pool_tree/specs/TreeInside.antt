@@ -16,11 +16,13 @@ abbrev pub node_count : ℕ → ℕ
 node_count zero = 0
 node_count (suc level) = 1 + 2 * node_count level
 
+-- whether a node says that its part is free
 abbrev pub is_free_node : Node → Bool
 is_free_node Free = true
 is_free_node Live = false
 is_free_node (Halved room) = false
 
+-- whether a node says that its part is one live block
 abbrev pub is_live_node : Node → Bool
 is_live_node Free = false
 is_live_node Live = true
@@ -37,18 +39,20 @@ room_in level Free = level
 room_in level Live = 0
 room_in level (Halved room) = room
 
--- the nodes of the left half and of the right half
+-- the nodes of the left half, of those below a node whose halves have this level
 abbrev pub left_half : ℕ → List Node → List Node
 left_half level below = take (node_count level) below
 
+-- and those of the right half
 abbrev pub right_half : ℕ → List Node → List Node
 right_half level below = drop (node_count level) below
 
--- the node over two halves of a level
+-- the node over two halves of this level with these nodes: free where both are, else with the larger room of the two
 abbrev pub joined_node : ℕ → Node → Node → Node
 joined_node level left right =
     if is_free_node left && is_free_node right then Free else Halved (max (room_in level left) (room_in level right))
 
+-- the node over these nodes of two halves
 abbrev pub node_over : ℕ → List Node → Node
 node_over level below = joined_node level (node_first (left_half level below)) (node_first (right_half level below))
 
@@ -65,7 +69,7 @@ IsKept (suc level) nodes =
     IsKept level (left_half level (drop 1 nodes)) × IsKept level (right_half level (drop 1 nodes))
     × FitsBelow level (node_first nodes) (drop 1 nodes)
 
--- so does each of both halves
+-- each node of both halves fits what lies below it
 abbrev pub IsKeptBelow : ℕ → List Node → Type 0
 IsKeptBelow level below = IsKept level (left_half level below) × IsKept level (right_half level below)
 
@@ -77,7 +81,7 @@ live_in (suc level) base nodes =
     else live_in level base (left_half level (drop 1 nodes))
     ++ live_in level (base + part_bytes level) (right_half level (drop 1 nodes))
 
--- those of both halves
+-- the live blocks of both halves
 abbrev pub live_below : ℕ → ℕ → List Node → PoolState
 live_below level base below =
     live_in level base (left_half level below) ++ live_in level (base + part_bytes level) (right_half level below)
@@ -86,7 +90,7 @@ live_below level base below =
 abbrev pub AllFree : List Node → Type 0
 AllFree nodes = All (λ node. node ≡ Free) nodes
 
--- the nodes of an arena
+-- these are the nodes of an arena
 pub record IsPool (nodes : List Node) : Type 0 where
   pub count : length nodes ≡ 4095
   pub kept : IsKept 12 nodes

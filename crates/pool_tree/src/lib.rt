@@ -1,5 +1,5 @@
-//! Floor: memory. It promises that each block of a pool arena of 65,536 bytes gets the lowest aligned place, and that live blocks
-//! lie apart. It never touches the bytes of an arena, takes memory after its making, prints, or starts a thread.
+//! Floor: memory. It promises that each block of a pool arena of 65,536 bytes gets the lowest aligned place, and that
+//! live blocks lie apart. It never touches an arena's bytes, takes memory after its making, prints, or starts a thread.
 #![tactic(auto)]
 
 pub mod laws;
@@ -8,4 +8,4 @@ mod pool;
 mod tests;
 mod tree;
 
-pub use pool::{NotLive, PoolTree};
+pub use pool::{ARENA_BYTES, NotLive, PoolTree};

@@ -9,7 +9,7 @@ use std::alloc::Global;
 use std::marker::Model;
 
 /// The bytes of an arena.
-const ARENA_BYTES: u64 = 65_536;
+pub const ARENA_BYTES: u64 = 65_536;
 
 /// The level of the whole arena in the tree of halves.
 const TOP: u8 = 12;

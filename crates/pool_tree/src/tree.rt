@@ -1,5 +1,5 @@
-//! The tree of halves. A part of level l has 16 · 2^l bytes and is two halves of the level below. Its node stands first,
-//! then the nodes of its left half and those of its right half. A part of level 0 has no node.
+//! The tree of halves. A part of level l has 16 · 2^l bytes and is two halves of the level below. Its node stands
+//! first, then the nodes of its left half and those of its right half. A part of level 0 has no node.
 ghost use Rattle.std.specs.Prelude.{◌≡◌, ◌+◌, ◌*◌, ◌≤◌, ◌<◌, length};
 ghost use Rattle.pool_tree.specs.PoolInside.{Gives, Frees, IsPart};
 ghost use Rattle.pool_tree.specs.TreeInside.{part_bytes, node_count, node_first, room_in, node_over, IsKept};

@@ -128,7 +128,8 @@ take_below-returns-then-is_some-clause-gives t c =
     let long_later : length c.take-found.new.nodes ≡ node_count c.args.level = omega (arith, c.take-found.auto.nodes, long) in
     let some : is_some c.take-found.result ≡ true = search rules in
     subst (λ (xs : List Node). Gives c.args.base (2 * part_bytes c.args.level) (part_bytes c.args.wanted)
-    (live_below c.args.level c.args.base xs) (live_below c.args.level c.args.base (c.take-found.new.nodes ++ right)) c.take-found.result) (sym c.split_at_mut-left.ensures.value)
+    (live_below c.args.level c.args.base xs) (live_below c.args.level c.args.base (c.take-found.new.nodes ++ right))
+    c.take-found.result) (sym c.split_at_mut-left.ensures.value)
     (gives_first c.args.level c.args.base left right c.take-found.new.nodes long long_later c.args.wanted
     c.take-found.result some c.take-found.ensures.gives)
 
@@ -167,7 +168,8 @@ take_below-returns-clause-gives t c =
     (live_in c.args.level (c.args.base + bytes) right) (live_in c.args.level (c.args.base + bytes) c.take.new.nodes) c.take.result)
     c.bytes_at.ensures c.take.ensures.gives in
     subst (λ (xs : List Node). Gives c.args.base (2 * part_bytes c.args.level) (part_bytes c.args.wanted)
-    (live_below c.args.level c.args.base xs) (live_below c.args.level c.args.base (c.take-found.new.nodes ++ c.take.new.nodes)) c.take.result)
+    (live_below c.args.level c.args.base xs) (live_below c.args.level c.args.base (c.take-found.new.nodes ++ c.take.new.nodes))
+    c.take.result)
     (sym c.split_at_mut-left.ensures.value)
     (gives_second c.args.level c.args.base left right c.take-found.new.nodes long long_later c.args.wanted c.take.new.nodes
     c.take-found.result c.take.result none c.requires.fits part c.take-found.ensures.gives gives)
