@@ -2,15 +2,15 @@
 -- What taking and freeing a block mean in a part of the arena.
 use Rattle.std.specs.Prelude.{◌≡◌, ℕ, ◌+◌, ◌≤◌, All, Option, Some, None, Result, Ok, Err}
 use Rattle.pool_tree.specs.declared.pool.NotLive.{NotLive}
-use Rattle.pool_tree.specs.Pool.{PoolState, IsMultiple, IsApart, IsLive, with_block, without_block}
+use Rattle.pool_tree.specs.Pool.{PoolState, arena_bytes, IsMultiple, IsApart, IsLive, with_block, without_block}
 use Rattle.pool_tree.specs.TreeInside.{part_bytes}
 
 -- a part of this level begins at this place: a multiple of its bytes, within the arena
 pub record IsPart (level base : ℕ) : Type 0 where
   pub aligned : IsMultiple base (part_bytes level)
-  pub within : base + part_bytes level ≤ 65536
+  pub within : base + part_bytes level ≤ arena_bytes
 
--- a block of this size may lie at this place within the part that has so many bytes from its base on
+-- a block of this size may lie at this place within the part that has n bytes from its base on, n being `bytes`
 pub record IsPlaceIn (base bytes : ℕ) (live : PoolState) (size place : ℕ) : Type 0 where
   pub after : base ≤ place
   pub before : place + size ≤ base + bytes

@@ -6,7 +6,7 @@ use Rattle.pool_tree.specs.declared.tree.Node.{Node}
 use Rattle.pool_tree.specs.declared.tree.Node.TheVariants.{Free, Live, Halved}
 use Rattle.pool_tree.specs.Pool.{PoolState}
 
--- the bytes of a part: 16 at level 0, and twice as many a level up
+-- the bytes of a part: 16 at level 0, and twice as many one level up
 abbrev pub part_bytes : ℕ → ℕ
 part_bytes zero = 16
 part_bytes (suc level) = 2 * part_bytes level

@@ -1,6 +1,7 @@
 //! A pool arena, as its live blocks.
 ghost use Rattle.std.specs.Prelude.{◌≡◌, ◌≤◌, ◌↔◌, ℕ, [], IfOk, IfSome, IfNone, OnOk, OnErr, IsErr, length};
-ghost use Rattle.pool_tree.specs.Pool.{IsArena, IsBlockSize, IsLive, IsLowestPlace, IsPlace, with_block, without_block};
+ghost use Rattle.pool_tree.specs.Pool.{arena_bytes, IsArena, IsBlockSize, IsLive, IsLowestPlace, IsPlace, with_block};
+ghost use Rattle.pool_tree.specs.Pool.{without_block};
 ghost use Rattle.pool_tree.specs.TreeInside.{AllFree, part_bytes};
 
 use crate::tree::{Node, bytes_at, give, take};
@@ -21,7 +22,7 @@ const NODES: usize = 4_095;
 #[derive(Clone, Copy, Debug, PartialEq, Eq)]
 pub struct NotLive;
 
-/// An arena of 65,536 bytes, of which its live blocks are kept. It takes 8,190 bytes.
+/// An arena of 65,536 bytes, of which it keeps the live blocks, in a tree of 4,095 nodes.
 #[derive(Debug, Drop)]
 pub struct PoolTree {
     nodes: Vec<Node>,
@@ -85,7 +86,7 @@ impl PoolTree {
     }
 }
 
-/// A count of nodes of free parts.
+/// As many nodes of free parts as this.
 fn free_nodes(alloc: Global, count: usize) -> Result<Vec<Node>, NoMemory>
     ensures count { IfOk result (λ nodes. length nodes.items ≡ count) }
     ensures free { IfOk result (λ nodes. AllFree nodes.items) }
@@ -97,7 +98,7 @@ fn free_nodes(alloc: Global, count: usize) -> Result<Vec<Node>, NoMemory>
 /// The level of the smallest parts that hold n bytes.
 fn level_for(n: u64) -> u8
     requires some { 1 ≤ n }
-    requires fits { n ≤ 65536 }
+    requires fits { n ≤ arena_bytes }
     ensures low { 1 ≤ result }
     ensures high { result ≤ 12 }
     ensures size { IsBlockSize n (part_bytes result) }

@@ -77,7 +77,7 @@ fn joined(below: &[Node], level: u8) -> Node
     }
 }
 
-/// Makes the lowest free part of the wanted level a live block, and gives its place.
+/// In a part that begins at `base`: makes the lowest free part of the wanted level a live block, and gives its place.
 #[cycle(take)]
 pub fn take(nodes: &mut [Node], level: u8, base: u32, wanted: u8) -> Option<u32>
     requires nodes { length nodes.old ≡ node_count level }
@@ -103,7 +103,7 @@ pub fn take(nodes: &mut [Node], level: u8, base: u32, wanted: u8) -> Option<u32>
     place
 }
 
-/// The same in the two halves of a part, the left one first.
+/// The same in the two halves of a part, the left one first. They have this level, and `base` is the part's.
 #[cycle(take)]
 fn take_below(below: &mut [Node], level: u8, base: u32, wanted: u8) -> Option<u32>
     requires nodes { length below.old ≡ 2 * node_count level }
@@ -125,7 +125,7 @@ fn take_below(below: &mut [Node], level: u8, base: u32, wanted: u8) -> Option<u3
     take(right, level, base + bytes_at(level), wanted)
 }
 
-/// Frees the live block that begins at a place.
+/// In a part that begins at `base`: frees the live block that begins at a place.
 #[cycle(give)]
 pub fn give(nodes: &mut [Node], level: u8, base: u64, place: u64) -> Result<(), NotLive>
     requires nodes { length nodes.old ≡ node_count level }
@@ -152,7 +152,7 @@ pub fn give(nodes: &mut [Node], level: u8, base: u64, place: u64) -> Result<(), 
     given
 }
 
-/// The same in that half of a part in which the place lies.
+/// The same in that half of a part in which the place lies. The halves have this level, and `base` is the part's.
 #[cycle(give)]
 fn give_below(below: &mut [Node], level: u8, base: u64, place: u64) -> Result<(), NotLive>
     requires nodes { length below.old ≡ 2 * node_count level }
