@@ -1,0 +1,4 @@
+pub mod Pool
+pub mod PoolInside
+pub mod PoolLaws
+pub mod TreeInside
