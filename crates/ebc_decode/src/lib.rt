@@ -1,0 +1,25 @@
+//! Needs `mm_base` alone.
+//! EFI Byte Code as it is spelled: `decode` takes exactly the bytes that begin with an instruction's one spelling, and `encode`
+//! gives that spelling.
+//! It never touches registers, memory or a bus, and takes no memory.
+#![tactic(auto)]
+
+mod choices;
+mod head;
+mod ins;
+mod layout;
+pub mod laws;
+mod opcode;
+mod operand;
+mod reading;
+mod rows;
+mod tail;
+
+
+mod writing;
+
+pub use choices::{BreakCode, Condition, Special, StackOp};
+pub use ins::Ins;
+pub use operand::{Field, FieldWidth, Operand, Place, Target, Width};
+pub use reading::{EncodingFault, decode, decode_fetched, length};
+pub use writing::encode;
