@@ -1,2 +1,5 @@
 pub mod ByteLemmas
 pub mod RowLemmas
+pub mod HeadLemmas
+pub mod SoundLemmas
+pub mod FormLemmas

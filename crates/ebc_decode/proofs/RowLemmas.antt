@@ -37,7 +37,7 @@ bit-test (suc (suc n)) small = absurd (omega arith)
 
 pub bit-false : (b : Bool) → not b ≡ true → bit b ≡ 0
 bit-false false h = refl
-bit-false true h = refl
+bit-false true h = absurd (false≢true h)
 
 pub record IsZero (place : Place) : Type 0 where
   pub register : place.register ≡ 0
@@ -78,6 +78,11 @@ fits-if false width raw h = tt
 pub alone : (xs : List ℕ) (raw : ℕ) → xs ≡ xs ++ little 0 raw
 unfolding little
 alone xs raw = sym (append-nil xs)
+
+-- two fields that aren't there have no bytes
+pub neither : (f g : ℕ) → [] ≡ little 0 f ++ little 0 g
+unfolding little
+neither f g = refl
 
 -- ---- the bits of each row
 

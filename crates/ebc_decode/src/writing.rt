@@ -1,5 +1,5 @@
 //! Instructions as their bytes.
-ghost use Rattle.std.specs.Prelude.{◌≡◌, ◌+◌, ◌-◌, ◌*◌, ◌<◌, ◌≤◌, ◌^◌, ◌∷◌, ◌++◌, replicate};
+ghost use Rattle.std.specs.Prelude.{◌≡◌, ◌+◌, ◌-◌, ◌*◌, ◌<◌, ◌^◌, ◌∷◌, ◌++◌, false, replicate};
 ghost use Rattle.ebc_decode.specs.Bytes.{little};
 ghost use Rattle.ebc_decode.specs.Spelling.{bit, place_bits, compare_number, compute_opcode, width_number, move_opcode};
 ghost use Rattle.ebc_decode.specs.Spelling.{index_number, stack_number, special_number, break_number, immediate_six};
