@@ -3,3 +3,5 @@ pub mod RowLemmas
 pub mod HeadLemmas
 pub mod SoundLemmas
 pub mod FormLemmas
+pub mod TableLemmas
+pub mod ReadLemmas
