@@ -5,3 +5,4 @@ pub mod SoundLemmas
 pub mod FormLemmas
 pub mod TableLemmas
 pub mod ReadLemmas
+pub mod WordLemmas
