@@ -52,6 +52,16 @@ place_bits-lt place small = few place.register place.indirect small
     few register true small = omega arith
     few register false small = omega arith
 
+-- eight bits
+pub byte_0-lt : (head : Head) → head.opcode < 64 → byte_0 head < 256
+byte_0-lt head small = few head.opcode head.six head.seven small
+  where
+    few : (opcode : ℕ) (six seven : Bool) → opcode < 64 → opcode + 64 * bit six + 128 * bit seven < 256
+    few opcode true true small = omega arith
+    few opcode true false small = omega arith
+    few opcode false true small = omega arith
+    few opcode false false small = omega arith
+
 -- ---- and back
 
 place_in-place_bits : (place : Place) → place.register < 8 → place_in (place_bits place) ≡ place

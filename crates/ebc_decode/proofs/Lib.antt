@@ -6,3 +6,5 @@ pub mod FormLemmas
 pub mod TableLemmas
 pub mod ReadLemmas
 pub mod WordLemmas
+pub mod LawLemmas
+pub mod ToldLemmas

@@ -13,7 +13,7 @@ use Rattle.ebc_decode.specs.Lawful.{IsLawful}
 use Rattle.ebc_decode.specs.Reading.{size_of, IsInstruction, TellsEach, BeginsInstruction, TellsEachLength}
 use Rattle.ebc_decode.specs.ReadingInside.{opcode_number, accepts, widths, bytes_if, layout_length, built, head_in, Begins, BeginsOnly}
 use Rattle.ebc_decode.proofs.ByteLemmas.{length-little, little-add, little-fields, fields-little}
-use Rattle.ebc_decode.proofs.HeadLemmas.{IsHead, with_fields, byte_0, head_in-is, byte_0-head_in, head_in-back}
+use Rattle.ebc_decode.proofs.HeadLemmas.{IsHead, with_fields, byte_0, byte_0-lt, place_bits-lt, head_in-is, byte_0-head_in, head_in-back}
 use Rattle.ebc_decode.proofs.SoundLemmas.{Sound, sound, bytes_with}
 use Rattle.ebc_decode.proofs.FormLemmas.{Form, form}
 use Rattle.ebc_decode.proofs.TableLemmas.{number_below, same_opcode}
@@ -38,6 +38,8 @@ pub record Spelled (instruction : Ins) : Type 0 where
   pub opcode : Opcode
   pub f : ℕ
   pub g : ℕ
+  pub first_small : first < 256
+  pub second_small : second < 256
   pub begins : Begins (head_in first second) opcode
   pub one : f < 256 ^ bytes_if (widths opcode (head_in first second)).first
   pub other : g < 256 ^ bytes_if (widths opcode (head_in first second)).second
@@ -56,10 +58,12 @@ spelled instruction h =
     let s = sound x.opcode head x.f x.g x.listed is x.accepted x.one x.other in
     let back = sym (head_in-back (opcode_number x.opcode) x.six x.seven x.first x.second small x.first_small x.second_small) in
     let spelling = sym (ap (λ (i : Ins). spelling_of i) x.made) ∙ s.spelled in
-    moved (byte_0 head) head.byte head back x.opcode x.f x.g
+    let low = place_bits-lt x.first x.first_small in
+    let high = place_bits-lt x.second x.second_small in
+    moved (byte_0 head) head.byte (byte_0-lt head small) (omega arith) head back x.opcode x.f x.g
         (record { listed = x.listed; number = refl; accepted = x.accepted }) x.one x.other x.made spelling
   where
-    moved : (first second : ℕ) (head : Head) → head ≡ head_in first second → (opcode : Opcode) (f g : ℕ)
+    moved : (first second : ℕ) → first < 256 → second < 256 → (head : Head) → head ≡ head_in first second → (opcode : Opcode) (f g : ℕ)
         → Begins head opcode
         → f < 256 ^ bytes_if (widths opcode head).first
         → g < 256 ^ bytes_if (widths opcode head).second
@@ -67,7 +71,7 @@ spelled instruction h =
         → spelling_of instruction
             ≡ first ∷ second ∷ (little (bytes_if (widths opcode head).first) f ++ little (bytes_if (widths opcode head).second) g)
         → Spelled instruction
-    moved first second head e opcode f g begins one other made bytes =
+    moved first second first_small second_small head e opcode f g begins one other made bytes =
         let P : Head → Type 0 = λ head.
                 Begins head opcode × (f < 256 ^ bytes_if (widths opcode head).first) × (g < 256 ^ bytes_if (widths opcode head).second)
                 × (built opcode head f g ≡ instruction)
@@ -75,7 +79,7 @@ spelled instruction h =
                     ≡ first ∷ second ∷ (little (bytes_if (widths opcode head).first) f ++ little (bytes_if (widths opcode head).second) g)) in
         let all = subst P e (begins, one, other, made, bytes) in
         record {
-          first = first; second = second; opcode = opcode; f = f; g = g;
+          first = first; second = second; opcode = opcode; f = f; g = g; first_small = first_small; second_small = second_small;
           begins = all.0; one = all.1; other = all.2; made = all.3; bytes = all.4
         }
 

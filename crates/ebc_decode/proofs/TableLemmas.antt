@@ -1,5 +1,5 @@
 -- The table of opcodes.
-use Rattle.std.proofs.Common.{◌≡◌, ℕ, zero, suc, ◌+◌, ◌<◌, ◌≤◌, inl, inr, Bool, true, false, ◌&&◌, ◌==◌, List, [], ◌∷◌, length, get_or, Option, Some, None, refl, sym, ap, ◌∙◌, subst, arith}
+use Rattle.std.proofs.Common.{◌≡◌, ℕ, zero, suc, ◌+◌, ◌<◌, ◌≤◌, inl, inr, Bool, true, false, ◌&&◌, ◌==◌, List, [], ◌∷◌, length, get_or, Option, Some, None, IfSome, refl, sym, ap, ◌∙◌, subst, arith}
 use Rattle.std.proofs.lemmas.Bool.{false≢true, and_parts, eqb-true, cases_lt}
 use Rattle.std.proofs.lemmas.List.{get_or_past}
 use Rattle.mm_base.specs.declared.operation.AluOp.{AluOp}
@@ -238,3 +238,7 @@ number_below opcode h = elim (cases_lt (opcode_number opcode) 64) [ inl below �
         let none = get_or_past OPCODES (opcode_number opcode) None past in
         let some = at_number-of opcode h in
         cc
+
+pub found_some : (number : ℕ) (told : Option Opcode) → told ≡ at_number number → IfSome told (λ (opcode : Opcode). IsOpcode number opcode)
+found_some number None e = tt
+found_some number (Some opcode) e = found_at number opcode (sym e)

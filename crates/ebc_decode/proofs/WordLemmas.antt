@@ -27,7 +27,7 @@ told_parts told other result one_way e =
 
 -- ---- an instruction whose first two bytes are known
 
-record Owned (first second : ℕ) (rest : List ℕ) (instruction : Ins) : Type 0 where
+pub record Owned (first second : ℕ) (rest : List ℕ) (instruction : Ins) : Type 0 where
   pub opcode : Opcode
   pub f : ℕ
   pub g : ℕ
@@ -40,7 +40,7 @@ record Owned (first second : ℕ) (rest : List ℕ) (instruction : Ins) : Type 0
     rest ≡ little (bytes_if (widths opcode (head_in first second)).first) f
         ++ little (bytes_if (widths opcode (head_in first second)).second) g
 
-owned : (instruction : Ins) (first second : ℕ) (rest : List ℕ)
+pub owned : (instruction : Ins) (first second : ℕ) (rest : List ℕ)
     → IsLawful instruction
     → spelling_of instruction ≡ first ∷ second ∷ rest
     → Owned first second rest instruction
@@ -152,7 +152,7 @@ split_front : (n number k : ℕ) (front : List ℕ)
 split_front n number k front is size = is.are ∙ ap (λ (m : ℕ). little m number) size ∙ little-two k number
 
 -- An instruction with which the first n bytes of a number begin is what they make.
-record Held (n number : ℕ) (instruction : Ins) : Type 0 where
+pub record Held (n number : ℕ) (instruction : Ins) : Type 0 where
   pub opcode : Opcode
   pub begins : Begins (head_of number) opcode
   pub size : size_of instruction ≡ layout_length (widths opcode (head_of number))
@@ -179,7 +179,7 @@ held_by n number k instruction size within o =
       made = (λ i. built o.opcode (head_of number) (same.0 i) (same.1 i)) ∙ o.made
     }
 
-held : (n number : ℕ) (instruction : Ins)
+pub held : (n number : ℕ) (instruction : Ins)
     → IsLawful instruction
     → BeginsWith (little n number) (spelling_of instruction)
     → Held n number instruction
