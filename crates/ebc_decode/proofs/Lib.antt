@@ -8,3 +8,4 @@ pub mod ReadLemmas
 pub mod WordLemmas
 pub mod LawLemmas
 pub mod ToldLemmas
+pub mod FetchLemmas
