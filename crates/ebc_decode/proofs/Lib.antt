@@ -9,3 +9,4 @@ pub mod WordLemmas
 pub mod LawLemmas
 pub mod ToldLemmas
 pub mod FetchLemmas
+pub mod WriteLemmas

@@ -252,6 +252,7 @@ fn to_target(opcode: u8, target: Target, high: u8) -> Parts
 }
 
 /// A jump over some pairs of bytes.
+#[tactic(auto, unfolding(crate::specs::Spelling::spelling_of))]
 fn short_jump(when: Condition, distance: u8) -> Parts
     requires { distance < 256 }
     ensures bytes { bytes_of_parts result ≡ spelling_of (ShortJump when distance) }
@@ -313,6 +314,7 @@ fn on_one(opcode: u8, six: bool, operand: Operand) -> Parts
 }
 
 /// A comparison with an immediate.
+#[tactic(auto, unfolding(crate::specs::Spelling::spelling_of))]
 fn with_compared(op: CmpOp, wide: bool, first: Operand, immediate: Field) -> Parts
     requires first { IsTarget 2 first }
     requires immediate { IsField immediate }
@@ -353,6 +355,7 @@ fn jump_bits(when: Condition, relative: bool) -> u8
 }
 
 /// The parts of an instruction.
+#[tactic(auto, unfolding(crate::specs::Spelling::spelling_of))]
 fn parts_of(ins: &Ins) -> Parts
     requires { IsLawful ins.now }
     ensures bytes { bytes_of_parts result ≡ spelling_of ins.now }
