@@ -82,10 +82,11 @@ fields-little m n x f g one other e =
     let both = e ∙ little-add m n x in
     let y = x / 256 ^ m in
     let front : little m f ≡ little m x =
-        sym (take_at (little m f) (little n g) m (length-little m f)) ∙ ap (λ (l : List ℕ). take m l) both
-        ∙ take_at (little m x) (little n y) m (length-little m x) in
+    sym (take_at (little m f) (little n g) m (length-little m f)) ∙ ap (λ (l : List ℕ). take m l) both
+    ∙ take_at (little m x) (little n y) m (length-little m x) in
     let rest : little n g ≡ little n y =
-        sym (drop_at (little m f) (little n g) m (length-little m f)) ∙ ap (λ (l : List ℕ). drop m l) both
-        ∙ drop_at (little m x) (little n y) m (length-little m x) in
-    ( sym (number_of-little m x) ∙ sym (ap (λ (l : List ℕ). number_of l) front) ∙ number_of-little m f ∙ mod-eq_of_lt one
-    , sym (number_of-little n y) ∙ sym (ap (λ (l : List ℕ). number_of l) rest) ∙ number_of-little n g ∙ mod-eq_of_lt other )
+    sym (drop_at (little m f) (little n g) m (length-little m f)) ∙ ap (λ (l : List ℕ). drop m l) both
+    ∙ drop_at (little m x) (little n y) m (length-little m x) in (
+      sym (number_of-little m x) ∙ sym (ap (λ (l : List ℕ). number_of l) front) ∙ number_of-little m f ∙ mod-eq_of_lt one,
+      sym (number_of-little n y) ∙ sym (ap (λ (l : List ℕ). number_of l) rest) ∙ number_of-little n g ∙ mod-eq_of_lt other,
+    )

@@ -23,7 +23,7 @@ head_of-words first second third =
 -- the number after them
 pub tail_of-words : (first second third : ℕ)
     → first / 65536 + second % 65536 * 281474976710656 + 2 ^ 64 * (second / 65536 + third * 281474976710656)
-        ≡ tail_of (number_in first second third)
+    ≡ tail_of (number_in first second third)
 tail_of-words first second third = omega arith
 
 -- the words of 18 bytes spell their number
@@ -37,12 +37,12 @@ number_of-words bytes many =
     let last : drop 8 (drop 8 bytes) ≡ drop 16 bytes = drop-drop 8 8 bytes in
     let whole = ap (λ (l : List ℕ). number_of l) (sym (take-append-drop 8 bytes)) ∙ number_of-append (take 8 bytes) (drop 8 bytes) in
     let rest =
-        ap (λ (l : List ℕ). number_of l) (sym (take-append-drop 8 (drop 8 bytes)))
-        ∙ number_of-append (take 8 (drop 8 bytes)) (drop 8 (drop 8 bytes)) in
+    ap (λ (l : List ℕ). number_of l) (sym (take-append-drop 8 (drop 8 bytes)))
+    ∙ number_of-append (take 8 (drop 8 bytes)) (drop 8 (drop 8 bytes)) in
     let p : 256 ^ length (take 8 bytes) * number_of (drop 8 bytes) ≡ 2 ^ 64 * number_of (drop 8 bytes) =
-        ap (λ (k : ℕ). 256 ^ k * number_of (drop 8 bytes)) one in
+    ap (λ (k : ℕ). 256 ^ k * number_of (drop 8 bytes)) one in
     let q : 256 ^ length (take 8 (drop 8 bytes)) * number_of (drop 8 (drop 8 bytes)) ≡ 2 ^ 64 * number_of (drop 8 (drop 8 bytes)) =
-        ap (λ (k : ℕ). 256 ^ k * number_of (drop 8 (drop 8 bytes))) other in
+    ap (λ (k : ℕ). 256 ^ k * number_of (drop 8 (drop 8 bytes))) other in
     let r = ap (λ (l : List ℕ). number_of l) last in
     omega arith
 
@@ -53,7 +53,7 @@ last_two bytes many =
     let other = drop_more bytes 17 0 (omega arith) in
     let none = drop_all 18 bytes (omega arith) in
     let all : drop 16 bytes ≡ get_or bytes 16 0 ∷ get_or bytes 17 0 ∷ [] =
-        one ∙ (λ i. get_or bytes 16 0 ∷ (other ∙ (λ j. get_or bytes 17 0 ∷ none j)) i) in
+    one ∙ (λ i. get_or bytes 16 0 ∷ (other ∙ (λ j. get_or bytes 17 0 ∷ none j)) i) in
     ap (λ (l : List ℕ). number_of l) all ∙ (omega arith)
 
 -- the first n of 18 bytes are those of the words
@@ -68,11 +68,11 @@ pub fetched : (bytes : List ℕ) (n first second third : ℕ)
 fetched bytes n first second third many few within one other last =
     let number = number_of bytes in
     let same : number_in first second third ≡ number =
-        (λ i. number_in (one i) (other i) ((last ∙ sym (last_two bytes many)) i)) ∙ number_of-words bytes many in
+    (λ i. number_in (one i) (other i) ((last ∙ sym (last_two bytes many)) i)) ∙ number_of-words bytes many in
     let own : little 18 number ≡ bytes = ap (λ (k : ℕ). little k number) (sym many) ∙ little-number_of bytes few in
     let split : 18 ≡ n + (18 - n) = omega arith in
     let cut : bytes ≡ little n number ++ little (18 - n) (number / 256 ^ n) =
-        sym own ∙ ap (λ (k : ℕ). little k number) split ∙ little-add n (18 - n) number in
+    sym own ∙ ap (λ (k : ℕ). little k number) split ∙ little-add n (18 - n) number in
     ap (λ (m : ℕ). little n m) same
     ∙ sym (ap (λ (l : List ℕ). take n l) cut ∙ take_at (little n number) (little (18 - n) (number / 256 ^ n)) n (length-little n number))
 
@@ -86,20 +86,20 @@ whole_found k bytes ins n is =
       begins = record {
         rest = is.begins.rest ++ drop k bytes;
         are =
-          sym (take-append-drop k bytes) ∙ ap (λ (l : List ℕ). l ++ drop k bytes) is.begins.are
-          ∙ append_assoc (spelling_of ins) is.begins.rest (drop k bytes)
+            sym (take-append-drop k bytes) ∙ ap (λ (l : List ℕ). l ++ drop k bytes) is.begins.are
+            ∙ append_assoc (spelling_of ins) is.begins.rest (drop k bytes);
       };
-      size = is.size
+      size = is.size;
     }
 
 begins_front : (k : ℕ) (bytes front : List ℕ) → length front ≤ k → BeginsWith bytes front → BeginsWith (take k bytes) front
 begins_front k bytes front within begins =
     let m = length front in
     let own : take m (take k bytes) ≡ front =
-        take-take m k bytes within ∙ ap (λ (l : List ℕ). take m l) begins.are ∙ take_at front begins.rest m refl in
+    take-take m k bytes within ∙ ap (λ (l : List ℕ). take m l) begins.are ∙ take_at front begins.rest m refl in
     record {
       rest = drop m (take k bytes);
-      are = sym (take-append-drop m (take k bytes)) ∙ ap (λ (l : List ℕ). l ++ drop m (take k bytes)) own
+      are = sym (take-append-drop m (take k bytes)) ∙ ap (λ (l : List ℕ). l ++ drop m (take k bytes)) own;
     }
 
 -- and the other way round, where they are 18 or all.

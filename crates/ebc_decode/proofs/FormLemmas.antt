@@ -103,7 +103,7 @@ aimed (targets.Operand to) h =
       small = h.register;
       names = refl;
       fits = x.fits;
-      is = λ i. targets.Operand (record { place = to.place; field = x.is i })
+      is = λ i. targets.Operand (record { place = to.place; field = x.is i });
     }
 
 -- ---- bits that are read back
@@ -145,7 +145,7 @@ calls false false = record { small = omega arith; few = refl; is_native = refl; 
 -- b7 and b6 of a short jump
 short_back : (when : Condition)
     → ((is_conditional when || not (wanted_carry when)) ≡ true)
-        × (condition_with (is_conditional when) (wanted_carry when) ≡ when)
+    × (condition_with (is_conditional when) (wanted_carry when) ≡ when)
 short_back Always = (refl, refl)
 short_back CarryClear = (refl, refl)
 short_back CarrySet = (refl, refl)
@@ -188,7 +188,7 @@ byte_moves false = refl
 -- b7 and b6 of an immediate
 immediate_back : (width : FieldWidth)
     → ((immediate_six width || immediate_seven width) ≡ true)
-        × ((if immediate_seven width then (if immediate_six width then Bits64 else Bits32) else Bits16) ≡ width)
+    × ((if immediate_seven width then (if immediate_six width then Bits64 else Bits32) else Bits16) ≡ width)
 immediate_back Bits16 = (refl, refl)
 immediate_back Bits32 = (refl, refl)
 immediate_back Bits64 = (refl, refl)
@@ -207,23 +207,56 @@ break_form : (n : ℕ) (code : BreakCode)
     → Form (ins.Break code)
 break_form n code small accepted e =
     record {
-      opcode = opcodes.Break; six = false; seven = false; first = three n; second = zero_bits; f = 0; g = 0;
-      listed = tt; first_small = small; second_small = omega arith;
+      opcode = opcodes.Break;
+      six = false;
+      seven = false;
+      first = three n;
+      second = zero_bits;
+      f = 0;
+      g = 0;
+      listed = tt;
+      first_small = small;
+      second_small = omega arith;
       accepted = ap (λ (b : Bool). b && true) accepted;
-      one = omega arith; other = omega arith;
-      made = λ i. ins.Break (e i)
+      one = omega arith;
+      other = omega arith;
+      made = λ i. ins.Break (e i);
     }
 
 special_form : (register : ℕ) (from : Special) → register < 8 → Form (ins.StoreSpecial register from)
 special_form register Flags h =
     record {
-      opcode = opcodes.StoreSpecial; six = false; seven = false; first = three register; second = three 0; f = 0; g = 0;
-      listed = tt; first_small = h; second_small = omega arith; accepted = refl; one = omega arith; other = omega arith; made = refl
+      opcode = opcodes.StoreSpecial;
+      six = false;
+      seven = false;
+      first = three register;
+      second = three 0;
+      f = 0;
+      g = 0;
+      listed = tt;
+      first_small = h;
+      second_small = omega arith;
+      accepted = refl;
+      one = omega arith;
+      other = omega arith;
+      made = refl;
     }
 special_form register NextAddress h =
     record {
-      opcode = opcodes.StoreSpecial; six = false; seven = false; first = three register; second = three 1; f = 0; g = 0;
-      listed = tt; first_small = h; second_small = omega arith; accepted = refl; one = omega arith; other = omega arith; made = refl
+      opcode = opcodes.StoreSpecial;
+      six = false;
+      seven = false;
+      first = three register;
+      second = three 1;
+      f = 0;
+      g = 0;
+      listed = tt;
+      first_small = h;
+      second_small = omega arith;
+      accepted = refl;
+      one = omega arith;
+      other = omega arith;
+      made = refl;
     }
 
 -- an index that is there by a bit that was read back
@@ -256,21 +289,29 @@ compared_form op wide first immediate target short fits =
     let w = compared_back immediate.width short in
     let P : FieldWidth → Type 0 = λ width. immediate.raw < 256 ^ bytes_in width in
     record {
-      opcode = opcodes.CompareImmediate op; six = wide; seven = immediate_seven immediate.width;
-      first = first.place; second = three (bit x.there); f = x.raw; g = immediate.raw;
-      listed = tt; first_small = target.register; second_small = bit-small x.there;
+      opcode = opcodes.CompareImmediate op;
+      six = wide;
+      seven = immediate_seven immediate.width;
+      first = first.place;
+      second = three (bit x.there);
+      f = x.raw;
+      g = immediate.raw;
+      listed = tt;
+      first_small = target.register;
+      second_small = bit-small x.there;
       accepted = and_from _ _ (bit-below x.there) (may_read x.there _ first.place back (may_be Bits16 first x target));
-      one = index_fits back x.fits; other = subst P (sym w) fits;
+      one = index_fits back x.fits;
+      other = subst P (sym w) fits;
       made =
-        λ i. ins.CompareImmediate op wide (record { place = first.place; field = index_is x.there _ x.raw back x.is i })
-        (record { width = w i; raw = immediate.raw })
+          λ i. ins.CompareImmediate op wide (record { place = first.place; field = index_is x.there _ x.raw back x.is i })
+          (record { width = w i; raw = immediate.raw });
     }
 
 -- moves of an immediate
 moved_accepted : (moved : Width) (first : Operand) (immediate : Field) (x : Present Bits16 first.field)
     → IsTarget 2 first
     → ((not false && (immediate_six immediate.width || immediate_seven immediate.width))
-        && may_index (nat_le 4 (moving moved x.there)) first.place) ≡ true
+    && may_index (nat_le 4 (moving moved x.there)) first.place) ≡ true
 moved_accepted moved first immediate x target =
     and_from _ _ (immediate_back immediate.width).0
     (may_read x.there _ first.place (moves moved x.there).has_index (may_be Bits16 first x target))
@@ -287,7 +328,7 @@ moved_first moved first x =
 immediate_fits : (immediate : Field)
     → IsField immediate
     → immediate.raw
-        < 256 ^ bytes_in (if immediate_seven immediate.width then (if immediate_six immediate.width then Bits64 else Bits32) else Bits16)
+    < 256 ^ bytes_in (if immediate_seven immediate.width then (if immediate_six immediate.width then Bits64 else Bits32) else Bits16)
 immediate_fits immediate h =
     let P : FieldWidth → Type 0 = λ width. immediate.raw < 256 ^ bytes_in width in
     subst P (sym (immediate_back immediate.width).1) h
@@ -303,11 +344,20 @@ form (ins.Jump when relative target) h =
     let t = aimed target h in
     let b = jumps when relative in
     record {
-      opcode = opcodes.Jump; six = t.six; seven = t.seven; first = t.first; second = jumping when relative; f = t.raw; g = 0;
-      listed = tt; first_small = t.small; second_small = b.small;
+      opcode = opcodes.Jump;
+      six = t.six;
+      seven = t.seven;
+      first = t.first;
+      second = jumping when relative;
+      f = t.raw;
+      g = 0;
+      listed = tt;
+      first_small = t.small;
+      second_small = b.small;
       accepted = and_from _ _ t.names b.bits;
-      one = t.fits; other = omega arith;
-      made = λ i. ins.Jump (b.condition i) (b.is_relative i) (t.is i)
+      one = t.fits;
+      other = omega arith;
+      made = λ i. ins.Jump (b.condition i) (b.is_relative i) (t.is i);
     }
 form (ins.ShortJump when distance) h =
     let b = short_back when in
@@ -315,85 +365,203 @@ form (ins.ShortJump when distance) h =
     let high = place_bits-place_in (distance / 16) (omega arith) in
     let byte : place_bits (place_in (distance % 16)) + 16 * place_bits (place_in (distance / 16)) ≡ distance = omega arith in
     record {
-      opcode = opcodes.ShortJump; six = wanted_carry when; seven = is_conditional when;
-      first = place_in (distance % 16); second = place_in (distance / 16); f = 0; g = 0;
-      listed = tt; first_small = omega arith; second_small = omega arith; accepted = b.0; one = omega arith; other = omega arith;
-      made = λ i. ins.ShortJump (b.1 i) (byte i)
+      opcode = opcodes.ShortJump;
+      six = wanted_carry when;
+      seven = is_conditional when;
+      first = place_in (distance % 16);
+      second = place_in (distance / 16);
+      f = 0;
+      g = 0;
+      listed = tt;
+      first_small = omega arith;
+      second_small = omega arith;
+      accepted = b.0;
+      one = omega arith;
+      other = omega arith;
+      made = λ i. ins.ShortJump (b.1 i) (byte i);
     }
 form (ins.Call native relative target) h =
     let t = aimed target h in
     let b = calls native relative in
     record {
-      opcode = opcodes.Call; six = t.six; seven = t.seven; first = t.first; second = three (calling native relative); f = t.raw; g = 0;
-      listed = tt; first_small = t.small; second_small = b.small;
+      opcode = opcodes.Call;
+      six = t.six;
+      seven = t.seven;
+      first = t.first;
+      second = three (calling native relative);
+      f = t.raw;
+      g = 0;
+      listed = tt;
+      first_small = t.small;
+      second_small = b.small;
       accepted = and_from _ _ t.names b.few;
-      one = t.fits; other = omega arith;
-      made = λ i. ins.Call (b.is_native i) (b.is_relative i) (t.is i)
+      one = t.fits;
+      other = omega arith;
+      made = λ i. ins.Call (b.is_native i) (b.is_relative i) (t.is i);
     }
 form ins.Return h =
     record {
-      opcode = opcodes.Return; six = false; seven = false; first = zero_bits; second = zero_bits; f = 0; g = 0;
-      listed = tt; first_small = omega arith; second_small = omega arith; accepted = refl; one = omega arith; other = omega arith;
-      made = refl
+      opcode = opcodes.Return;
+      six = false;
+      seven = false;
+      first = zero_bits;
+      second = zero_bits;
+      f = 0;
+      g = 0;
+      listed = tt;
+      first_small = omega arith;
+      second_small = omega arith;
+      accepted = refl;
+      one = omega arith;
+      other = omega arith;
+      made = refl;
     }
 form (ins.Compare op wide first second) h =
     let x = present Bits16 second.field h.1.field in
     record {
-      opcode = opcodes.Compare op; six = wide; seven = x.there; first = three first; second = second.place; f = x.raw; g = 0;
-      listed = tt; first_small = h.0; second_small = h.1.register; accepted = refl; one = x.fits; other = omega arith;
-      made = λ i. ins.Compare op wide first (record { place = second.place; field = x.is i })
+      opcode = opcodes.Compare op;
+      six = wide;
+      seven = x.there;
+      first = three first;
+      second = second.place;
+      f = x.raw;
+      g = 0;
+      listed = tt;
+      first_small = h.0;
+      second_small = h.1.register;
+      accepted = refl;
+      one = x.fits;
+      other = omega arith;
+      made = λ i. ins.Compare op wide first (record { place = second.place; field = x.is i });
     }
 form (ins.Compute op wide first second) h =
     let x = present Bits16 second.field h.1.field in
     record {
-      opcode = opcodes.Compute op; six = wide; seven = x.there; first = first; second = second.place; f = x.raw; g = 0;
-      listed = tt; first_small = h.0; second_small = h.1.register; accepted = refl; one = x.fits; other = omega arith;
-      made = λ i. ins.Compute op wide first (record { place = second.place; field = x.is i })
+      opcode = opcodes.Compute op;
+      six = wide;
+      seven = x.there;
+      first = first;
+      second = second.place;
+      f = x.raw;
+      g = 0;
+      listed = tt;
+      first_small = h.0;
+      second_small = h.1.register;
+      accepted = refl;
+      one = x.fits;
+      other = omega arith;
+      made = λ i. ins.Compute op wide first (record { place = second.place; field = x.is i });
     }
 form (ins.Move moved index first second) h =
     let x = present index first.field h.1.field in
     let y = present index second.field h.2.field in
     record {
-      opcode = opcodes.Move moved index; six = y.there; seven = x.there; first = first.place; second = second.place; f = x.raw; g = y.raw;
-      listed = h.0; first_small = h.1.register; second_small = h.2.register; accepted = may_be index first x h.1; one = x.fits; other = y.fits;
-      made = λ i. ins.Move moved index (record { place = first.place; field = x.is i }) (record { place = second.place; field = y.is i })
+      opcode = opcodes.Move moved index;
+      six = y.there;
+      seven = x.there;
+      first = first.place;
+      second = second.place;
+      f = x.raw;
+      g = y.raw;
+      listed = h.0;
+      first_small = h.1.register;
+      second_small = h.2.register;
+      accepted = may_be index first x h.1;
+      one = x.fits;
+      other = y.fits;
+      made = λ i. ins.Move moved index (record { place = first.place; field = x.is i }) (record { place = second.place; field = y.is i });
     }
 form (ins.MoveSigned index first second) h =
     let x = present index first.field h.1.field in
     let y = present index second.field h.2.field in
     record {
-      opcode = opcodes.MoveSigned index; six = y.there; seven = x.there; first = first.place; second = second.place; f = x.raw; g = y.raw;
-      listed = h.0; first_small = h.1.register; second_small = h.2.register; accepted = may_be index first x h.1; one = x.fits; other = y.fits;
-      made = λ i. ins.MoveSigned index (record { place = first.place; field = x.is i }) (record { place = second.place; field = y.is i })
+      opcode = opcodes.MoveSigned index;
+      six = y.there;
+      seven = x.there;
+      first = first.place;
+      second = second.place;
+      f = x.raw;
+      g = y.raw;
+      listed = h.0;
+      first_small = h.1.register;
+      second_small = h.2.register;
+      accepted = may_be index first x h.1;
+      one = x.fits;
+      other = y.fits;
+      made = λ i. ins.MoveSigned index (record { place = first.place; field = x.is i }) (record { place = second.place; field = y.is i });
     }
 form (ins.MoveNatural index first second) h =
     let x = present index first.field h.1.field in
     let y = present index second.field h.2.field in
     record {
-      opcode = opcodes.MoveNatural index; six = y.there; seven = x.there; first = first.place; second = second.place; f = x.raw; g = y.raw;
-      listed = h.0; first_small = h.1.register; second_small = h.2.register; accepted = may_be index first x h.1; one = x.fits; other = y.fits;
-      made = λ i. ins.MoveNatural index (record { place = first.place; field = x.is i }) (record { place = second.place; field = y.is i })
+      opcode = opcodes.MoveNatural index;
+      six = y.there;
+      seven = x.there;
+      first = first.place;
+      second = second.place;
+      f = x.raw;
+      g = y.raw;
+      listed = h.0;
+      first_small = h.1.register;
+      second_small = h.2.register;
+      accepted = may_be index first x h.1;
+      one = x.fits;
+      other = y.fits;
+      made = λ i. ins.MoveNatural index (record { place = first.place; field = x.is i }) (record { place = second.place; field = y.is i });
     }
 form (ins.LoadFlags register) h =
     record {
-      opcode = opcodes.LoadFlags; six = false; seven = false; first = zero_bits; second = three register; f = 0; g = 0;
-      listed = tt; first_small = omega arith; second_small = h; accepted = refl; one = omega arith; other = omega arith;
-      made = refl
+      opcode = opcodes.LoadFlags;
+      six = false;
+      seven = false;
+      first = zero_bits;
+      second = three register;
+      f = 0;
+      g = 0;
+      listed = tt;
+      first_small = omega arith;
+      second_small = h;
+      accepted = refl;
+      one = omega arith;
+      other = omega arith;
+      made = refl;
     }
 form (ins.StoreSpecial register from) h = special_form register from h
 form (ins.Stack op wide operand) h =
     let x = present Bits16 operand.field h.field in
     record {
-      opcode = opcodes.Stack op; six = wide; seven = x.there; first = operand.place; second = zero_bits; f = x.raw; g = 0;
-      listed = tt; first_small = h.register; second_small = omega arith; accepted = refl; one = x.fits; other = omega arith;
-      made = λ i. ins.Stack op wide (record { place = operand.place; field = x.is i })
+      opcode = opcodes.Stack op;
+      six = wide;
+      seven = x.there;
+      first = operand.place;
+      second = zero_bits;
+      f = x.raw;
+      g = 0;
+      listed = tt;
+      first_small = h.register;
+      second_small = omega arith;
+      accepted = refl;
+      one = x.fits;
+      other = omega arith;
+      made = λ i. ins.Stack op wide (record { place = operand.place; field = x.is i });
     }
 form (ins.StackNatural op operand) h =
     let x = present Bits16 operand.field h.field in
     record {
-      opcode = opcodes.StackNatural op; six = false; seven = x.there; first = operand.place; second = zero_bits; f = x.raw; g = 0;
-      listed = tt; first_small = h.register; second_small = omega arith; accepted = refl; one = x.fits; other = omega arith;
-      made = λ i. ins.StackNatural op (record { place = operand.place; field = x.is i })
+      opcode = opcodes.StackNatural op;
+      six = false;
+      seven = x.there;
+      first = operand.place;
+      second = zero_bits;
+      f = x.raw;
+      g = 0;
+      listed = tt;
+      first_small = h.register;
+      second_small = omega arith;
+      accepted = refl;
+      one = x.fits;
+      other = omega arith;
+      made = λ i. ins.StackNatural op (record { place = operand.place; field = x.is i });
     }
 form (ins.CompareImmediate op wide first immediate) h = compared_form op wide first immediate h.0 h.1 h.2
 form (ins.MoveImmediate moved first immediate) h =
@@ -401,34 +569,58 @@ form (ins.MoveImmediate moved first immediate) h =
     let m = moves moved x.there in
     let w = immediate_back immediate.width in
     record {
-      opcode = opcodes.MoveImmediate; six = immediate_six immediate.width; seven = immediate_seven immediate.width;
-      first = first.place; second = three (moving moved x.there); f = x.raw; g = immediate.raw;
-      listed = tt; first_small = h.0.register; second_small = m.small;
+      opcode = opcodes.MoveImmediate;
+      six = immediate_six immediate.width;
+      seven = immediate_seven immediate.width;
+      first = first.place;
+      second = three (moving moved x.there);
+      f = x.raw;
+      g = immediate.raw;
+      listed = tt;
+      first_small = h.0.register;
+      second_small = m.small;
       accepted = moved_accepted moved first immediate x h.0;
-      one = moved_fits moved x; other = immediate_fits immediate h.1;
-      made = λ i. ins.MoveImmediate (m.is_moved i) (moved_first moved first x i) (record { width = w.1 i; raw = immediate.raw })
+      one = moved_fits moved x;
+      other = immediate_fits immediate h.1;
+      made = λ i. ins.MoveImmediate (m.is_moved i) (moved_first moved first x i) (record { width = w.1 i; raw = immediate.raw });
     }
 form (ins.MoveIndex first index) h =
     let x = present Bits16 first.field h.0.field in
     let m = moves Byte x.there in
     let w = immediate_back index.width in
     record {
-      opcode = opcodes.MoveIndex; six = immediate_six index.width; seven = immediate_seven index.width;
-      first = first.place; second = three (moving Byte x.there); f = x.raw; g = index.raw;
-      listed = tt; first_small = h.0.register; second_small = m.small;
+      opcode = opcodes.MoveIndex;
+      six = immediate_six index.width;
+      seven = immediate_seven index.width;
+      first = first.place;
+      second = three (moving Byte x.there);
+      f = x.raw;
+      g = index.raw;
+      listed = tt;
+      first_small = h.0.register;
+      second_small = m.small;
       accepted = and_from _ _ (moved_accepted Byte first index x h.0) (byte_moves x.there);
-      one = moved_fits Byte x; other = immediate_fits index h.1;
-      made = λ i. ins.MoveIndex (moved_first Byte first x i) (record { width = w.1 i; raw = index.raw })
+      one = moved_fits Byte x;
+      other = immediate_fits index h.1;
+      made = λ i. ins.MoveIndex (moved_first Byte first x i) (record { width = w.1 i; raw = index.raw });
     }
 form (ins.MoveRelative first immediate) h =
     let x = present Bits16 first.field h.0.field in
     let m = moves Byte x.there in
     let w = immediate_back immediate.width in
     record {
-      opcode = opcodes.MoveRelative; six = immediate_six immediate.width; seven = immediate_seven immediate.width;
-      first = first.place; second = three (moving Byte x.there); f = x.raw; g = immediate.raw;
-      listed = tt; first_small = h.0.register; second_small = m.small;
+      opcode = opcodes.MoveRelative;
+      six = immediate_six immediate.width;
+      seven = immediate_seven immediate.width;
+      first = first.place;
+      second = three (moving Byte x.there);
+      f = x.raw;
+      g = immediate.raw;
+      listed = tt;
+      first_small = h.0.register;
+      second_small = m.small;
       accepted = and_from _ _ (moved_accepted Byte first immediate x h.0) (byte_moves x.there);
-      one = moved_fits Byte x; other = immediate_fits immediate h.1;
-      made = λ i. ins.MoveRelative (moved_first Byte first x i) (record { width = w.1 i; raw = immediate.raw })
+      one = moved_fits Byte x;
+      other = immediate_fits immediate h.1;
+      made = λ i. ins.MoveRelative (moved_first Byte first x i) (record { width = w.1 i; raw = immediate.raw });
     }

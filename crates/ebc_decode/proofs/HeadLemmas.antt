@@ -22,7 +22,7 @@ with_fields opcode six seven first second =
       seven = seven;
       first = first;
       second = second;
-      byte = place_bits first + 16 * place_bits second
+      byte = place_bits first + 16 * place_bits second;
     }
 
 -- byte 0
@@ -81,7 +81,7 @@ place_in-place_bits place small = with_bits place.register place.indirect small
 -- what two bits of byte 0 are read as
 bits_back : (opcode : ℕ) (six seven : Bool) → opcode < 64
     → let byte = opcode + 64 * bit six + 128 * bit seven in
-      (byte % 64 ≡ opcode) × ((byte / 64 % 2 == 1) ≡ six) × ((byte / 128 == 1) ≡ seven)
+    (byte % 64 ≡ opcode) × ((byte / 64 % 2 == 1) ≡ six) × ((byte / 128 == 1) ≡ seven)
 bits_back opcode true true small =
     let a : (opcode + 64 + 128) / 64 % 2 ≡ 1 = omega arith in
     let b : (opcode + 64 + 128) / 128 ≡ 1 = omega arith in
@@ -104,7 +104,7 @@ pub head_in-back : (opcode : ℕ) (six seven : Bool) (first second : Place)
     → first.register < 8
     → second.register < 8
     → head_in (opcode + 64 * bit six + 128 * bit seven) (place_bits first + 16 * place_bits second)
-        ≡ with_fields opcode six seven first second
+    ≡ with_fields opcode six seven first second
 head_in-back opcode six seven first second small one other =
     let bits = bits_back opcode six seven small in
     let low_few = place_bits-lt first one in
@@ -118,5 +118,5 @@ head_in-back opcode six seven first second small one other =
       seven = bits.2 i;
       first = first_back i;
       second = second_back i;
-      byte = place_bits first + 16 * place_bits second
+      byte = place_bits first + 16 * place_bits second;
     }

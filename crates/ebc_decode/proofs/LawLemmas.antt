@@ -42,9 +42,9 @@ spelling_below instruction lawful =
     let rest = little (bytes_if layout.first) s.f ++ little (bytes_if layout.second) s.g in
     let P : List ℕ → Type 0 = λ bytes. (i : ℕ) → get_or bytes i 0 < 256 in
     subst P (sym s.bytes)
-        (two s.first s.second rest s.first_small s.second_small
-            (both_below (little (bytes_if layout.first) s.f) (little (bytes_if layout.second) s.g)
-                (little-below (bytes_if layout.first) s.f) (little-below (bytes_if layout.second) s.g)))
+    (two s.first s.second rest s.first_small s.second_small
+    (both_below (little (bytes_if layout.first) s.f) (little (bytes_if layout.second) s.g)
+    (little-below (bytes_if layout.first) s.f) (little-below (bytes_if layout.second) s.g)))
   where
     two : (first second : ℕ) (rest : List ℕ) → first < 256 → second < 256 → ((i : ℕ) → get_or rest i 0 < 256)
         → (i : ℕ) → get_or (first ∷ second ∷ rest) i 0 < 256

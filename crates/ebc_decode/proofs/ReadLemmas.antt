@@ -45,9 +45,9 @@ pub record Spelled (instruction : Ins) : Type 0 where
   pub other : g < 256 ^ bytes_if (widths opcode (head_in first second)).second
   pub made : built opcode (head_in first second) f g ≡ instruction
   pub bytes :
-    spelling_of instruction
+      spelling_of instruction
       ≡ first ∷ second ∷ (little (bytes_if (widths opcode (head_in first second)).first) f
-          ++ little (bytes_if (widths opcode (head_in first second)).second) g)
+      ++ little (bytes_if (widths opcode (head_in first second)).second) g)
 
 pub spelled : (instruction : Ins) → IsLawful instruction → Spelled instruction
 spelled instruction h =
@@ -61,7 +61,7 @@ spelled instruction h =
     let low = place_bits-lt x.first x.first_small in
     let high = place_bits-lt x.second x.second_small in
     moved (byte_0 head) head.byte (byte_0-lt head small) (omega arith) head back x.opcode x.f x.g
-        (record { listed = x.listed; number = refl; accepted = x.accepted }) x.one x.other x.made spelling
+    (record { listed = x.listed; number = refl; accepted = x.accepted }) x.one x.other x.made spelling
   where
     moved : (first second : ℕ) → first < 256 → second < 256 → (head : Head) → head ≡ head_in first second → (opcode : Opcode) (f g : ℕ)
         → Begins head opcode
@@ -69,18 +69,28 @@ spelled instruction h =
         → g < 256 ^ bytes_if (widths opcode head).second
         → built opcode head f g ≡ instruction
         → spelling_of instruction
-            ≡ first ∷ second ∷ (little (bytes_if (widths opcode head).first) f ++ little (bytes_if (widths opcode head).second) g)
+        ≡ first ∷ second ∷ (little (bytes_if (widths opcode head).first) f ++ little (bytes_if (widths opcode head).second) g)
         → Spelled instruction
     moved first second first_small second_small head e opcode f g begins one other made bytes =
         let P : Head → Type 0 = λ head.
-                Begins head opcode × (f < 256 ^ bytes_if (widths opcode head).first) × (g < 256 ^ bytes_if (widths opcode head).second)
-                × (built opcode head f g ≡ instruction)
-                × (spelling_of instruction
-                    ≡ first ∷ second ∷ (little (bytes_if (widths opcode head).first) f ++ little (bytes_if (widths opcode head).second) g)) in
+        Begins head opcode × (f < 256 ^ bytes_if (widths opcode head).first) × (g < 256 ^ bytes_if (widths opcode head).second)
+        × (built opcode head f g ≡ instruction)
+        × (spelling_of instruction
+        ≡ first ∷ second ∷ (little (bytes_if (widths opcode head).first) f ++ little (bytes_if (widths opcode head).second) g)) in
         let all = subst P e (begins, one, other, made, bytes) in
         record {
-          first = first; second = second; opcode = opcode; f = f; g = g; first_small = first_small; second_small = second_small;
-          begins = all.0; one = all.1; other = all.2; made = all.3; bytes = all.4
+          first = first;
+          second = second;
+          opcode = opcode;
+          f = f;
+          g = g;
+          first_small = first_small;
+          second_small = second_small;
+          begins = all.0;
+          one = all.1;
+          other = all.2;
+          made = all.3;
+          bytes = all.4;
         }
 
 -- how many bytes that is
@@ -99,9 +109,9 @@ size_of-spelled instruction s =
 pub record Makes (first second : ℕ) (opcode : Opcode) (number : ℕ) : Type 0 where
   pub lawful : IsLawful (made_of opcode (head_in first second) number)
   pub bytes :
-    spelling_of (made_of opcode (head_in first second) number)
+      spelling_of (made_of opcode (head_in first second) number)
       ≡ first ∷ second ∷ little (bytes_if (widths opcode (head_in first second)).first
-          + bytes_if (widths opcode (head_in first second)).second) number
+      + bytes_if (widths opcode (head_in first second)).second) number
 
 some_power : (n : ℕ) → 0 < 256 ^ n
 some_power zero = omega arith
@@ -121,6 +131,6 @@ makes first second opcode number one other begins =
     let g_fits = mod-lt (number / 256 ^ bytes_if layout.first) (some_power (bytes_if layout.second)) in
     let s = sound opcode head f g begins.listed (head_in-is first second one other) begins.accepted f_fits g_fits in
     let low : opcode_number opcode + 64 * bit head.six + 128 * bit head.seven ≡ first =
-        ap (λ (n : ℕ). n + 64 * bit head.six + 128 * bit head.seven) begins.number ∙ byte_0-head_in first second one in
+    ap (λ (n : ℕ). n + 64 * bit head.six + 128 * bit head.seven) begins.number ∙ byte_0-head_in first second one in
     let rest = little-fields (bytes_if layout.first) (bytes_if layout.second) number in
     record { lawful = s.lawful; bytes = s.spelled ∙ (λ i. low i ∷ second ∷ rest i) }

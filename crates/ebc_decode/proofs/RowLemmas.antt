@@ -94,7 +94,7 @@ break_bits place small h =
     let both = and_parts (not place.indirect) (nat_lt place.register 7 && not (place.register == 2)) h in
     let P : ℕ → Type 0 = λ n. (nat_lt n 7 && not (n == 2)) ≡ true → break_number (break_with n) ≡ n in
     let e = each_of_8 P (λ _. refl) (λ _. refl) (λ h. absurd (false≢true h)) (λ _. refl) (λ _. refl) (λ _. refl) (λ _. refl)
-            (λ h. absurd (false≢true h)) place.register small both.1 in
+    (λ h. absurd (false≢true h)) place.register small both.1 in
     let z = bit-false place.indirect both.0 in
     omega arith
 
@@ -103,25 +103,25 @@ pub jump_bits : (register : ℕ) (indirect : Bool)
     → register < 8
     → has_jump_bits (record { register = register; indirect = indirect }) ≡ true
     → bit (register % 2 == 1) + 4 * bit (wanted_carry (condition_with indirect (nat_le 4 register)))
-        + 8 * bit (is_conditional (condition_with indirect (nat_le 4 register)))
-        ≡ register + 8 * bit indirect
+    + 8 * bit (is_conditional (condition_with indirect (nat_le 4 register)))
+    ≡ register + 8 * bit indirect
 jump_bits register true small h =
     let P : ℕ → Type 0 = λ n. ((n / 2 % 2 == 0) && (nat_lt n 4 || true)) ≡ true
-            → bit (n % 2 == 1) + 4 * bit (wanted_carry (condition_with true (nat_le 4 n)))
-                + 8 * bit (is_conditional (condition_with true (nat_le 4 n))) ≡ n + 8 in
+    → bit (n % 2 == 1) + 4 * bit (wanted_carry (condition_with true (nat_le 4 n)))
+    + 8 * bit (is_conditional (condition_with true (nat_le 4 n))) ≡ n + 8 in
     each_of_8 P (λ _. refl) (λ _. refl) (λ h. absurd (false≢true h)) (λ h. absurd (false≢true h)) (λ _. refl) (λ _. refl)
-        (λ h. absurd (false≢true h)) (λ h. absurd (false≢true h)) register small h
+    (λ h. absurd (false≢true h)) (λ h. absurd (false≢true h)) register small h
 jump_bits register false small h =
     let P : ℕ → Type 0 = λ n. ((n / 2 % 2 == 0) && (nat_lt n 4 || false)) ≡ true
-            → bit (n % 2 == 1) + 4 * 0 + 8 * 0 ≡ n + 0 in
+    → bit (n % 2 == 1) + 4 * 0 + 8 * 0 ≡ n + 0 in
     each_of_8 P (λ _. refl) (λ _. refl) (λ h. absurd (false≢true h)) (λ h. absurd (false≢true h)) (λ h. absurd (false≢true h))
-        (λ h. absurd (false≢true h)) (λ h. absurd (false≢true h)) (λ h. absurd (false≢true h)) register small h
+    (λ h. absurd (false≢true h)) (λ h. absurd (false≢true h)) (λ h. absurd (false≢true h)) register small h
 
 pub call_bits : (register : ℕ) → register < 4 → bit (register % 2 == 1) + 2 * bit (nat_le 2 register) ≡ register
 call_bits register small =
     let P : ℕ → Type 0 = λ n. n < 4 → bit (n % 2 == 1) + 2 * bit (nat_le 2 n) ≡ n in
     each_of_8 P (λ _. refl) (λ _. refl) (λ _. refl) (λ _. refl) (λ h. absurd (omega arith)) (λ h. absurd (omega arith))
-        (λ h. absurd (omega arith)) (λ h. absurd (omega arith)) register (omega arith) small
+    (λ h. absurd (omega arith)) (λ h. absurd (omega arith)) register (omega arith) small
 
 pub special_bits : (register : ℕ) → register < 2 → special_number (special_with register) ≡ register
 special_bits zero small = refl
@@ -138,4 +138,4 @@ pub index_bits : (register : ℕ) → register < 8 → (register % 4 == 0) ≡ t
 index_bits register small h =
     let P : ℕ → Type 0 = λ n. (n % 4 == 0) ≡ true → 4 * bit (nat_le 4 n) ≡ n in
     each_of_8 P (λ _. refl) (λ h. absurd (false≢true h)) (λ h. absurd (false≢true h)) (λ h. absurd (false≢true h)) (λ _. refl)
-        (λ h. absurd (false≢true h)) (λ h. absurd (false≢true h)) (λ h. absurd (false≢true h)) register small h
+    (λ h. absurd (false≢true h)) (λ h. absurd (false≢true h)) (λ h. absurd (false≢true h)) register small h

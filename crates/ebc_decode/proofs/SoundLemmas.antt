@@ -71,20 +71,20 @@ jump_target_fits head raw small = by_six head.six head.seven
 target_spelled : (opcode high : ℕ) (head : Head) (raw other : ℕ)
     → names_target head ≡ true
     → with_target opcode (target_with head raw) high
-        ≡ (opcode + 64 * bit head.six + 128 * bit head.seven) ∷ (place_bits head.first + 16 * high)
-            ∷ (little (bytes_if (target_width head)) raw ++ little 0 other)
+    ≡ (opcode + 64 * bit head.six + 128 * bit head.seven) ∷ (place_bits head.first + 16 * high)
+    ∷ (little (bytes_if (target_width head)) raw ++ little 0 other)
 target_spelled opcode high head raw other = by_bits head.six head.seven
   where
     by_bits : (six seven : Bool)
         → (not six || (seven && has_no_bits head.first)) ≡ true
         → with_target opcode (target_with (record head { six = six; seven = seven }) raw) high
-            ≡ (opcode + 64 * bit six + 128 * bit seven) ∷ (place_bits head.first + 16 * high)
-                ∷ (little (bytes_if (if six then Some Bits64 else width_if seven Bits32)) raw ++ little 0 other)
+        ≡ (opcode + 64 * bit six + 128 * bit seven) ∷ (place_bits head.first + 16 * high)
+        ∷ (little (bytes_if (if six then Some Bits64 else width_if seven Bits32)) raw ++ little 0 other)
     by_bits true true h = let z = zero_place head.first h in same refl (omega arith) (alone (little 8 raw) other)
     by_bits true false h = absurd (false≢true h)
     by_bits false seven h =
         same (let e = ap (λ (b : Bool). bit b) (some-if seven raw) in omega arith) refl
-            (bytes-if seven Bits32 raw ∙ alone (little (bytes_if (width_if seven Bits32)) raw) other)
+        (bytes-if seven Bits32 raw ∙ alone (little (bytes_if (width_if seven Bits32)) raw) other)
 
 -- ---- immediates of moves
 
@@ -92,7 +92,7 @@ target_spelled opcode high head raw other = by_bits head.six head.seven
 immediate_bits : (six seven : Bool)
     → (six || seven) ≡ true
     → let width = if seven then (if six then Bits64 else Bits32) else Bits16 in
-      (immediate_six width ≡ six) × (immediate_seven width ≡ seven)
+    (immediate_six width ≡ six) × (immediate_seven width ≡ seven)
 immediate_bits true true h = (refl, refl)
 immediate_bits true false h = (refl, refl)
 immediate_bits false true h = (refl, refl)
@@ -110,7 +110,7 @@ compared_short false = tt
 short_bits : (six seven : Bool)
     → (seven || not six) ≡ true
     → 64 * bit (wanted_carry (condition_with seven six)) + 128 * bit (is_conditional (condition_with seven six))
-        ≡ 64 * bit six + 128 * bit seven
+    ≡ 64 * bit six + 128 * bit seven
 short_bits true true h = refl
 short_bits true false h = absurd (false≢true h)
 short_bits false true h = refl
@@ -122,8 +122,8 @@ moved_spelled : (opcode given : ℕ) (head : Head) (f g : ℕ)
     → has_immediate head ≡ true
     → given + 4 * bit (nat_le 4 head.second.register) ≡ head.second.register
     → with_immediate opcode (indexed head f) given (immediate_with head g)
-        ≡ (opcode + 64 * bit head.six + 128 * bit head.seven) ∷ head.byte
-            ∷ (little (bytes_if (width_if (nat_le 4 head.second.register) Bits16)) f ++ little (bytes_in (immediate_width head)) g)
+    ≡ (opcode + 64 * bit head.six + 128 * bit head.seven) ∷ head.byte
+    ∷ (little (bytes_if (width_if (nat_le 4 head.second.register) Bits16)) f ++ little (bytes_in (immediate_width head)) g)
 moved_spelled opcode given head f g is h bits =
     let parts = and_parts (not head.second.indirect && (head.six || head.seven)) _ h in
     let inner = and_parts (not head.second.indirect) (head.six || head.seven) parts.0 in
@@ -133,7 +133,7 @@ moved_spelled opcode given head f g is h bits =
     let seven = ap (λ (b : Bool). bit b) widths.1 in
     let some = ap (λ (b : Bool). bit b) (some-if (nat_le 4 head.second.register) f) in
     same (omega arith) (omega (arith, is.byte))
-        (λ i. bytes-if (nat_le 4 head.second.register) Bits16 f i ++ little (bytes_in (immediate_width head)) g)
+    (λ i. bytes-if (nat_le 4 head.second.register) Bits16 f i ++ little (bytes_in (immediate_width head)) g)
 
 moved_fits : (head : Head) (f : ℕ)
     → IsHead head
@@ -166,7 +166,7 @@ sound opcodes.Jump head f g listed is h one other =
     let bits = jump_bits head.second.register head.second.indirect is.second parts.1 in
     record {
       lawful = jump_target_fits head f is.first one;
-      spelled = target_spelled 0x01 _ head f g parts.0 ∙ same refl (omega (arith, is.byte)) refl
+      spelled = target_spelled 0x01 _ head f g parts.0 ∙ same refl (omega (arith, is.byte)) refl;
     }
 sound opcodes.ShortJump head f g listed is h one other =
     let bits = short_bits head.six head.seven h in
@@ -180,7 +180,7 @@ sound opcodes.Call head f g listed is h one other =
     let z = bit-false head.second.indirect inner.0 in
     record {
       lawful = jump_target_fits head f is.first one;
-      spelled = target_spelled 0x03 _ head f g parts.0 ∙ same refl (omega (arith, is.byte)) refl
+      spelled = target_spelled 0x03 _ head f g parts.0 ∙ same refl (omega (arith, is.byte)) refl;
     }
 sound opcodes.Return head f g listed is h one other =
     let parts = and_parts _ (has_no_bits head.second) h in
@@ -194,34 +194,34 @@ sound (opcodes.Compare op) head f g listed is h one other =
     let some = ap (λ (b : Bool). bit b) (some-if head.seven f) in
     record {
       lawful = (is.first, operand_fits head.second head.seven Bits16 f is.second one);
-      spelled = same (omega arith) (omega (arith, is.byte)) (bytes-if head.seven Bits16 f ∙ alone _ g)
+      spelled = same (omega arith) (omega (arith, is.byte)) (bytes-if head.seven Bits16 f ∙ alone _ g);
     }
 sound (opcodes.Compute op) head f g listed is h one other =
     let some = ap (λ (b : Bool). bit b) (some-if head.seven f) in
     record {
       lawful = (is.first, operand_fits head.second head.seven Bits16 f is.second one);
-      spelled = same (omega arith) (sym is.byte) (bytes-if head.seven Bits16 f ∙ alone _ g)
+      spelled = same (omega arith) (sym is.byte) (bytes-if head.seven Bits16 f ∙ alone _ g);
     }
 sound (opcodes.Move moved index) head f g listed is h one other =
     let some = ap (λ (b : Bool). bit b) (some-if head.seven f) in
     let also = ap (λ (b : Bool). bit b) (some-if head.six g) in
     record {
       lawful = (listed, target_fits head.first head.seven index f is.first h one, operand_fits head.second head.six index g is.second other);
-      spelled = same (omega arith) (sym is.byte) (λ i. bytes-if head.seven index f i ++ bytes-if head.six index g i)
+      spelled = same (omega arith) (sym is.byte) (λ i. bytes-if head.seven index f i ++ bytes-if head.six index g i);
     }
 sound (opcodes.MoveSigned index) head f g listed is h one other =
     let some = ap (λ (b : Bool). bit b) (some-if head.seven f) in
     let also = ap (λ (b : Bool). bit b) (some-if head.six g) in
     record {
       lawful = (listed, target_fits head.first head.seven index f is.first h one, operand_fits head.second head.six index g is.second other);
-      spelled = same (omega arith) (sym is.byte) (λ i. bytes-if head.seven index f i ++ bytes-if head.six index g i)
+      spelled = same (omega arith) (sym is.byte) (λ i. bytes-if head.seven index f i ++ bytes-if head.six index g i);
     }
 sound (opcodes.MoveNatural index) head f g listed is h one other =
     let some = ap (λ (b : Bool). bit b) (some-if head.seven f) in
     let also = ap (λ (b : Bool). bit b) (some-if head.six g) in
     record {
       lawful = (listed, target_fits head.first head.seven index f is.first h one, operand_fits head.second head.six index g is.second other);
-      spelled = same (omega arith) (sym is.byte) (λ i. bytes-if head.seven index f i ++ bytes-if head.six index g i)
+      spelled = same (omega arith) (sym is.byte) (λ i. bytes-if head.seven index f i ++ bytes-if head.six index g i);
     }
 sound opcodes.LoadFlags head f g listed is h one other =
     let parts = and_parts _ (not head.second.indirect) h in
@@ -244,7 +244,7 @@ sound (opcodes.Stack op) head f g listed is h one other =
     let some = ap (λ (b : Bool). bit b) (some-if head.seven f) in
     record {
       lawful = operand_fits head.first head.seven Bits16 f is.first one;
-      spelled = same (omega arith) (omega (arith, is.byte)) (bytes-if head.seven Bits16 f ∙ alone _ g)
+      spelled = same (omega arith) (omega (arith, is.byte)) (bytes-if head.seven Bits16 f ∙ alone _ g);
     }
 sound (opcodes.StackNatural op) head f g listed is h one other =
     let parts = and_parts (not head.six) (has_no_bits head.second) h in
@@ -253,7 +253,7 @@ sound (opcodes.StackNatural op) head f g listed is h one other =
     let some = ap (λ (b : Bool). bit b) (some-if head.seven f) in
     record {
       lawful = operand_fits head.first head.seven Bits16 f is.first one;
-      spelled = same (omega arith) (omega (arith, is.byte)) (bytes-if head.seven Bits16 f ∙ alone _ g)
+      spelled = same (omega arith) (omega (arith, is.byte)) (bytes-if head.seven Bits16 f ∙ alone _ g);
     }
 sound (opcodes.CompareImmediate op) head f g listed is h one other =
     let parts = and_parts (not head.second.indirect && nat_lt head.second.register 2) _ h in
@@ -263,30 +263,31 @@ sound (opcodes.CompareImmediate op) head f g listed is h one other =
     let some = ap (λ (b : Bool). bit b) (some-if (head.second.register == 1) f) in
     let seven = ap (λ (b : Bool). bit b) (compared_bits head.seven) in
     record {
-      lawful =
-        ( target_fits head.first (head.second.register == 1) Bits16 f is.first parts.1 one
-        , compared_short head.seven
-        , other );
+      lawful = (
+        target_fits head.first (head.second.register == 1) Bits16 f is.first parts.1 one,
+        compared_short head.seven,
+        other,
+      );
       spelled =
-        same (omega arith) (omega (arith, is.byte))
-        (λ i. bytes-if (head.second.register == 1) Bits16 f i ++ little (bytes_in (compared_width head)) g)
+          same (omega arith) (omega (arith, is.byte))
+          (λ i. bytes-if (head.second.register == 1) Bits16 f i ++ little (bytes_in (compared_width head)) g);
     }
 sound opcodes.MoveImmediate head f g listed is h one other =
     record {
       lawful = (moved_fits head f is h one, other);
-      spelled = moved_spelled 0x37 _ head f g is h (moved_bits head.second.register is.second)
+      spelled = moved_spelled 0x37 _ head f g is h (moved_bits head.second.register is.second);
     }
 sound opcodes.MoveIndex head f g listed is h one other =
     let parts = and_parts (has_immediate head) (head.second.register % 4 == 0) h in
     let bits = index_bits head.second.register is.second parts.1 in
     record {
       lawful = (moved_fits head f is parts.0 one, other);
-      spelled = moved_spelled 0x38 0 head f g is parts.0 (omega arith)
+      spelled = moved_spelled 0x38 0 head f g is parts.0 (omega arith);
     }
 sound opcodes.MoveRelative head f g listed is h one other =
     let parts = and_parts (has_immediate head) (head.second.register % 4 == 0) h in
     let bits = index_bits head.second.register is.second parts.1 in
     record {
       lawful = (moved_fits head f is parts.0 one, other);
-      spelled = moved_spelled 0x39 0 head f g is parts.0 (omega arith)
+      spelled = moved_spelled 0x39 0 head f g is parts.0 (omega arith);
     }

@@ -24,7 +24,7 @@ pub length_found_at : (first second : ℕ) (head : Head) (opcode : Opcode) (layo
 length_found_at first second head opcode layout n one other at begins fields size =
     let begins_there = subst (λ (h : Head). Begins h opcode) at begins in
     let e : layout_length (widths opcode (head_in first second)) ≡ n =
-        ap (λ (h : Head). layout_length (widths opcode h)) (sym at) ∙ ap (λ (l : Layout). layout_length l) (sym fields) ∙ sym size in
+    ap (λ (h : Head). layout_length (widths opcode h)) (sym at) ∙ ap (λ (l : Layout). layout_length l) (sym fields) ∙ sym size in
     subst (λ (k : ℕ). BeginsInstruction first second k) e (length_found first second opcode one other begins_there)
 
 pub length_told_at : (first second : ℕ) (head : Head) (opcode : Opcode) (layout : Layout) (n : ℕ)
@@ -66,7 +66,7 @@ pub words_short_at : (n number : ℕ) (head : Head) (opcode : Opcode) (layout : 
     → TellsEach (little n number) (Err fault)
 words_short_at n number head opcode layout size fault at only e short =
     words_short n number opcode layout fault (subst (λ (k : ℕ). n < k) e short)
-        (subst (λ (h : Head). BeginsOnly h (Ok (opcode, layout))) at only)
+    (subst (λ (h : Head). BeginsOnly h (Ok (opcode, layout))) at only)
 
 -- what was built of the fields that were read
 pub record Built (number : ℕ) (head : Head) (opcode : Opcode) (layout : Layout) (one other : ℕ) (ins : Ins) : Type 0 where
@@ -83,9 +83,9 @@ built_made number head opcode layout one other ins b =
     let made = b.built_is ∙ (λ i. built opcode head (b.first i) (b.second i)) in
     made
     ∙ ap
-      (λ (l : Layout). built opcode head (tail_of number % 256 ^ bytes_if l.first)
-          (tail_of number / 256 ^ bytes_if l.first % 256 ^ bytes_if l.second))
-      b.fields
+    (λ (l : Layout). built opcode head (tail_of number % 256 ^ bytes_if l.first)
+    (tail_of number / 256 ^ bytes_if l.first % 256 ^ bytes_if l.second))
+    b.fields
     ∙ ap (λ (h : Head). made_of opcode h (tail_of number)) b.at
 
 pub words_told_at : (n number : ℕ) (head : Head) (opcode : Opcode) (layout : Layout) (one other size : ℕ) (ins : Ins)

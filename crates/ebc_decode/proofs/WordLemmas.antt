@@ -37,8 +37,8 @@ pub record Owned (first second : ℕ) (rest : List ℕ) (instruction : Ins) : Ty
   pub made : built opcode (head_in first second) f g ≡ instruction
   pub size : size_of instruction ≡ layout_length (widths opcode (head_in first second))
   pub fields :
-    rest ≡ little (bytes_if (widths opcode (head_in first second)).first) f
-        ++ little (bytes_if (widths opcode (head_in first second)).second) g
+      rest ≡ little (bytes_if (widths opcode (head_in first second)).first) f
+      ++ little (bytes_if (widths opcode (head_in first second)).second) g
 
 pub owned : (instruction : Ins) (first second : ℕ) (rest : List ℕ)
     → IsLawful instruction
@@ -48,15 +48,22 @@ owned instruction first second rest lawful are =
     let s = spelled instruction lawful in
     let layout = widths s.opcode (head_in s.first s.second) in
     let both : (s.first ∷ s.second ∷ (little (bytes_if layout.first) s.f ++ little (bytes_if layout.second) s.g))
-            ≡ (first ∷ second ∷ rest) = sym s.bytes ∙ are in
+    ≡ (first ∷ second ∷ rest) = sym s.bytes ∙ are in
     let low : s.first ≡ first = cc in
     let high : s.second ≡ second = cc in
     let after : rest ≡ little (bytes_if layout.first) s.f ++ little (bytes_if layout.second) s.g = cc in
     let P : ℕ → ℕ → Type 0 = λ a b. Owned a b rest instruction in
     let here : Owned s.first s.second rest instruction = record {
-          opcode = s.opcode; f = s.f; g = s.g; begins = s.begins; one = s.one; other = s.other; made = s.made;
-          size = size_of-spelled instruction s; fields = after
-        } in
+      opcode = s.opcode;
+      f = s.f;
+      g = s.g;
+      begins = s.begins;
+      one = s.one;
+      other = s.other;
+      made = s.made;
+      size = size_of-spelled instruction s;
+      fields = after;
+    } in
     subst (λ (b : ℕ). Owned first b rest instruction) high (subst (λ (a : ℕ). Owned a s.second rest instruction) low here)
 
 -- ---- lengths
@@ -75,7 +82,7 @@ length_found first second opcode one other begins =
       ins = made_of opcode (head_in first second) 0;
       lawful = m.lawful;
       begins = record { rest = little (bytes_if layout.first + bytes_if layout.second) 0; are = m.bytes };
-      size = omega arith
+      size = omega arith;
     }
 
 pub length_told : (first second : ℕ) (opcode : Opcode) (layout : Layout)
@@ -136,8 +143,8 @@ is_front n number front begins =
     record {
       within = omega arith;
       are =
-        sym (take_at front begins.rest (length front) refl) ∙ ap (λ (l : List ℕ). take (length front) l) cut
-        ∙ take_at own rest (length front) (length-little (length front) number)
+          sym (take_at front begins.rest (length front) refl) ∙ ap (λ (l : List ℕ). take (length front) l) cut
+          ∙ take_at own rest (length front) (length-little (length front) number);
     }
 
 -- the first two bytes, and the others
@@ -176,7 +183,7 @@ held_by n number k instruction size within o =
       begins = o.begins;
       size = o.size;
       within = within;
-      made = (λ i. built o.opcode (head_of number) (same.0 i) (same.1 i)) ∙ o.made
+      made = (λ i. built o.opcode (head_of number) (same.0 i) (same.1 i)) ∙ o.made;
     }
 
 pub held : (n number : ℕ) (instruction : Ins)
@@ -189,8 +196,8 @@ held n number instruction lawful begins =
     let k = size_of instruction - 2 in
     let size : size_of instruction ≡ suc (suc k) = omega arith in
     held_by n number k instruction size front.within
-        (owned instruction (number % 256) (number / 256 % 256) (little k (tail_of number)) lawful
-            (split_front n number k (spelling_of instruction) front size))
+    (owned instruction (number % 256) (number / 256 % 256) (little k (tail_of number)) lawful
+    (split_front n number k (spelling_of instruction) front size))
 
 pub words_told : (n number : ℕ) (opcode : Opcode) (layout : Layout)
     → BeginsOnly (head_of number) (Ok (opcode, layout))
@@ -199,7 +206,7 @@ words_told n number opcode layout only instruction lawful begins =
     let x = held n number instruction lawful begins in
     let same = told_parts (opcode, layout) (x.opcode, widths x.opcode (head_of number)) (Ok (opcode, layout)) refl (only x.opcode x.begins) in
     let made : made_of opcode (head_of number) (tail_of number) ≡ instruction =
-        ap (λ (o : Opcode). made_of o (head_of number) (tail_of number)) same.0 ∙ x.made in
+    ap (λ (o : Opcode). made_of o (head_of number) (tail_of number)) same.0 ∙ x.made in
     let size : layout_length layout ≡ size_of instruction = ap (λ (l : Layout). layout_length l) same.1 ∙ sym x.size in
     λ i. Ok (made i, size i)
 
@@ -242,8 +249,8 @@ words_found n number opcode begins within =
       begins = record {
         rest = rest;
         are =
-          ap (λ (m : ℕ). little m number) many ∙ little-add (suc (suc k)) left number
-          ∙ ap (λ (l : List ℕ). l ++ rest) (sym spelling)
+            ap (λ (m : ℕ). little m number) many ∙ little-add (suc (suc k)) left number
+            ∙ ap (λ (l : List ℕ). l ++ rest) (sym spelling);
       };
-      size = omega arith
+      size = omega arith;
     }

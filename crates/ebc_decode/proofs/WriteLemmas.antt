@@ -22,7 +22,7 @@ unfolding little
 low_first-is zero i n = refl
 low_first-is (suc k) i n =
     let further : n / 256 ^ suc i ≡ n / 256 ^ i / 256 =
-            ap (λ (m : ℕ). n / m) (pow-suc 256 i) ∙ sym (div-div-eq-div-mul n (256 ^ i) 256) in
+    ap (λ (m : ℕ). n / m) (pow-suc 256 i) ∙ sym (div-div-eq-div-mul n (256 ^ i) 256) in
     λ j. byte_at-is i n j ∷ (low_first-is k (suc i) n ∙ ap (λ (m : ℕ). little k m) further) j
 
 pub word_bytes : (n : ℕ) → to_le_bytes w64 n ≡ little 8 n
@@ -48,11 +48,11 @@ little-join : (m n f g : ℕ) → f < 256 ^ m → little (m + n) (f + 256 ^ m * 
 little-join m n f g small =
     let turn : f + 256 ^ m * g ≡ g * 256 ^ m + f = let e = mul_comm (256 ^ m) g in omega arith in
     let low : (f + 256 ^ m * g) % 256 ^ m ≡ f =
-        ap (λ (k : ℕ). k % 256 ^ m) turn ∙ mod-mul-add g (256 ^ m) f small in
+    ap (λ (k : ℕ). k % 256 ^ m) turn ∙ mod-mul-add g (256 ^ m) f small in
     let high : (f + 256 ^ m * g) / 256 ^ m ≡ g =
-        ap (λ (k : ℕ). k / 256 ^ m) turn ∙ div-mul-add g (256 ^ m) f small in
+    ap (λ (k : ℕ). k / 256 ^ m) turn ∙ div-mul-add g (256 ^ m) f small in
     let front : little m (f + 256 ^ m * g) ≡ little m f =
-        sym (little-mod m (f + 256 ^ m * g)) ∙ ap (λ (k : ℕ). little m k) low in
+    sym (little-mod m (f + 256 ^ m * g)) ∙ ap (λ (k : ℕ). little m k) low in
     little-add m n (f + 256 ^ m * g) ∙ (λ i. front i ++ little n (high i))
 
 -- a field has its own bytes, and zeros
@@ -94,7 +94,7 @@ words_bytes : (one other : Option Field) (low high : ℕ)
     → low < 2 ^ 64
     → low + 2 ^ 64 * high ≡ joined_number one other
     → little 8 low ++ little 8 high
-        ≡ (bytes_of_field one ++ bytes_of_field other) ++ replicate (16 - (field_size one + field_size other)) 0
+    ≡ (bytes_of_field one ++ bytes_of_field other) ++ replicate (16 - (field_size one + field_size other)) 0
 words_bytes one other low high fits also small e =
     let m = field_size one in
     let n = field_size other in

@@ -96,7 +96,7 @@ head_in first second =
       seven = first / 128 == 1;
       first = place_in (second % 16);
       second = place_in (second / 16);
-      byte = second
+      byte = second;
     }
 
 -- ---- which of them begin an instruction
@@ -263,7 +263,7 @@ built (opcodes.Stack op) head first second = ins.Stack op head.six (operand_with
 built (opcodes.StackNatural op) head first second = ins.StackNatural op (operand_with head.first head.seven first)
 built (opcodes.CompareImmediate op) head first second =
     ins.CompareImmediate op head.six (operand_with head.first (head.second.register == 1) first)
-        (record { width = compared_width head; raw = second })
+    (record { width = compared_width head; raw = second })
 built opcodes.MoveImmediate head first second =
     ins.MoveImmediate (width_with (head.second.register % 4)) (indexed head first) (immediate_with head second)
 built opcodes.MoveIndex head first second = ins.MoveIndex (indexed head first) (immediate_with head second)

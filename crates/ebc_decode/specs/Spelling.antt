@@ -176,7 +176,7 @@ immediate_seven Bits64 = true
 abbrev pub with_immediate : ℕ → Operand → ℕ → Field → List ℕ
 with_immediate opcode first given immediate =
     head opcode (immediate_six immediate.width) (immediate_seven immediate.width) (place_bits first.place)
-        (given + 4 * bit (is_some first.field))
+    (given + 4 * bit (is_some first.field))
     ++ field_bytes 2 first.field
     ++ little (bytes_in immediate.width) immediate.raw
 

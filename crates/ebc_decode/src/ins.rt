@@ -63,9 +63,14 @@ pub enum Ins {
         second: Operand,
     },
     /// 29 LOADSP: the flags are loaded from a register.
-    LoadFlags { register: u8 },
+    LoadFlags {
+        register: u8,
+    },
     /// 2A STORESP.
-    StoreSpecial { register: u8, from: Special },
+    StoreSpecial {
+        register: u8,
+        from: Special,
+    },
     /// 2B PUSH and 2C POP: a field has 16 bits.
     Stack {
         op: StackOp,
@@ -73,7 +78,10 @@ pub enum Ins {
         operand: Operand,
     },
     /// 35 PUSHN and 36 POPN: a field has 16 bits.
-    StackNatural { op: StackOp, operand: Operand },
+    StackNatural {
+        op: StackOp,
+        operand: Operand,
+    },
     /// 2D to 31 CMPI: an index of 16 bits, and an immediate of 16 or 32.
     CompareImmediate {
         op: CmpOp,
@@ -88,7 +96,13 @@ pub enum Ins {
         immediate: Field,
     },
     /// 38 MOVIN: an index of 16 bits, and the index whose value is moved.
-    MoveIndex { first: Operand, index: Field },
+    MoveIndex {
+        first: Operand,
+        index: Field,
+    },
     /// 39 MOVREL: an index of 16 bits, and an immediate that is added to the next address.
-    MoveRelative { first: Operand, immediate: Field },
+    MoveRelative {
+        first: Operand,
+        immediate: Field,
+    },
 }

@@ -17,7 +17,10 @@ pub(crate) struct Layout {
 
 impl Layout {
     /// No field.
-    const EMPTY: Layout = Layout { first: None, second: None };
+    const EMPTY: Layout = Layout {
+        first: None,
+        second: None,
+    };
 
     /// How many bytes the instruction has.
     #[inline(always)]
@@ -92,7 +95,9 @@ fn is_break_code(bits: Place) -> bool
 fn is_comparison(head: Head) -> bool
     ensures { result ≡ has_index_bit head }
 {
-    !head.second.indirect && head.second.register < 2 && takes_index(head.second.register == 1, head.first)
+    !head.second.indirect
+        && head.second.register < 2
+        && takes_index(head.second.register == 1, head.first)
 }
 
 /// Whether the two bytes are those of a move of an immediate.
@@ -100,7 +105,9 @@ fn is_comparison(head: Head) -> bool
 fn is_immediate(head: Head) -> bool
     ensures { result ≡ has_immediate head }
 {
-    !head.second.indirect && (head.six || head.seven) && takes_index(head.second.register >= 4, head.first)
+    !head.second.indirect
+        && (head.six || head.seven)
+        && takes_index(head.second.register >= 4, head.first)
 }
 
 /// Whether two bytes with this opcode begin an instruction.
@@ -116,16 +123,21 @@ pub(crate) fn is_accepted(opcode: Opcode, head: Head) -> bool
         Opcode::Return => is_plain(head) && is_zero(head.first) && is_zero(head.second),
         Opcode::Compare(_) => !head.first.indirect,
         Opcode::Compute(_) => true,
-        Opcode::Move(_, _) | Opcode::MoveSigned(_) | Opcode::MoveNatural(_) => takes_index(head.seven, head.first),
+        Opcode::Move(_, _) | Opcode::MoveSigned(_) | Opcode::MoveNatural(_) => takes_index(
+            head.seven, head.first,
+        ),
         Opcode::LoadFlags => is_plain(head) && is_zero(head.first) && !head.second.indirect,
         Opcode::StoreSpecial => {
-            is_plain(head) && !head.first.indirect && (!head.second.indirect && head.second.register < 2)
+            is_plain(head)
+                && !head.first.indirect
+                && (!head.second.indirect && head.second.register < 2)
         }
         Opcode::Stack(_) => is_zero(head.second),
         Opcode::StackNatural(_) => !head.six && is_zero(head.second),
         Opcode::CompareImmediate(_) => is_comparison(head),
         Opcode::MoveImmediate => is_immediate(head),
-        Opcode::MoveIndex | Opcode::MoveRelative => is_immediate(head) && head.second.register % 4 == 0,
+        Opcode::MoveIndex | Opcode::MoveRelative => is_immediate(head)
+            && head.second.register % 4 == 0,
     }
 }
 
@@ -142,7 +154,11 @@ fn width_where(there: bool, width: FieldWidth) -> Option<FieldWidth>
 fn width_of_target(head: Head) -> Option<FieldWidth>
     ensures { result ≡ target_width head }
 {
-    if head.six { Some(FieldWidth::Bits64) } else { width_where(head.seven, FieldWidth::Bits32) }
+    if head.six {
+        Some(FieldWidth::Bits64)
+    } else {
+        width_where(head.seven, FieldWidth::Bits32)
+    }
 }
 
 /// The width of the immediate of a move.
@@ -162,7 +178,11 @@ pub(crate) fn width_of_immediate(head: Head) -> FieldWidth
 pub(crate) fn width_of_compared(head: Head) -> FieldWidth
     ensures { result ≡ compared_width head }
 {
-    if head.seven { FieldWidth::Bits32 } else { FieldWidth::Bits16 }
+    if head.seven {
+        FieldWidth::Bits32
+    } else {
+        FieldWidth::Bits16
+    }
 }
 
 /// The fields that follow two bytes with this opcode.
@@ -171,13 +191,26 @@ pub(crate) fn fields_after(opcode: Opcode, head: Head) -> Layout
     ensures { result ≡ widths opcode head }
 {
     match opcode {
-        Opcode::Break | Opcode::ShortJump | Opcode::Return | Opcode::LoadFlags | Opcode::StoreSpecial => Layout::EMPTY,
-        Opcode::Jump | Opcode::Call => Layout { first: width_of_target(head), second: None },
+        Opcode::Break
+        | Opcode::ShortJump
+        | Opcode::Return
+        | Opcode::LoadFlags
+        | Opcode::StoreSpecial => Layout::EMPTY,
+        Opcode::Jump | Opcode::Call => Layout {
+            first: width_of_target(head),
+            second: None,
+        },
         Opcode::Compare(_) | Opcode::Compute(_) | Opcode::Stack(_) | Opcode::StackNatural(_) => {
-            Layout { first: width_where(head.seven, FieldWidth::Bits16), second: None }
+            Layout {
+                first: width_where(head.seven, FieldWidth::Bits16),
+                second: None,
+            }
         }
         Opcode::Move(_, index) | Opcode::MoveSigned(index) | Opcode::MoveNatural(index) => {
-            Layout { first: width_where(head.seven, index), second: width_where(head.six, index) }
+            Layout {
+                first: width_where(head.seven, index),
+                second: width_where(head.six, index),
+            }
         }
         Opcode::CompareImmediate(_) => Layout {
             first: width_where(head.second.register == 1, FieldWidth::Bits16),

@@ -7,15 +7,15 @@
 mod choices;
 mod head;
 mod ins;
-mod layout;
 pub mod laws;
+mod layout;
 mod opcode;
 mod operand;
 mod reading;
 mod rows;
 mod tail;
-
-
+#[cfg(test)]
+mod tests;
 mod writing;
 
 pub use choices::{BreakCode, Condition, Special, StackOp};

@@ -55,7 +55,11 @@ fn condition(conditional: bool, wanted: bool) -> Condition
 fn special(number: u8) -> Special
     ensures { result ≡ special_with number }
 {
-    if number == 0 { Special::Flags } else { Special::NextAddress }
+    if number == 0 {
+        Special::Flags
+    } else {
+        Special::NextAddress
+    }
 }
 
 /// An operand whose field, if it is there, is this number.
@@ -150,7 +154,9 @@ pub(crate) fn build(opcode: Opcode, head: Head, first: u64, second: u64) -> Ins
             first: operand(head.first, head.seven, first),
             second: operand(head.second, head.six, second),
         },
-        Opcode::LoadFlags => Ins::LoadFlags { register: head.second.register },
+        Opcode::LoadFlags => Ins::LoadFlags {
+            register: head.second.register,
+        },
         Opcode::StoreSpecial => Ins::StoreSpecial {
             register: head.first.register,
             from: special(head.second.register),
@@ -168,7 +174,10 @@ pub(crate) fn build(opcode: Opcode, head: Head, first: u64, second: u64) -> Ins
             op,
             wide: head.six,
             first: operand(head.first, head.second.register == 1, first),
-            immediate: Field { width: width_of_compared(head), raw: second },
+            immediate: Field {
+                width: width_of_compared(head),
+                raw: second,
+            },
         },
         Opcode::MoveImmediate => Ins::MoveImmediate {
             moved: moved_width(head.second.register % 4),

@@ -35,8 +35,10 @@ impl Tail {
     {
         match width {
             None => self.low,
-            Some(FieldWidth::Bits16) => self.low / 0x1_0000 + self.high % 0x1_0000 * 0x1_0000_0000_0000,
-            Some(FieldWidth::Bits32) => self.low / 0x1_0000_0000 + self.high % 0x1_0000_0000 * 0x1_0000_0000,
+            Some(FieldWidth::Bits16) => self.low / 0x1_0000
+                + self.high % 0x1_0000 * 0x1_0000_0000_0000,
+            Some(FieldWidth::Bits32) => self.low / 0x1_0000_0000
+                + self.high % 0x1_0000_0000 * 0x1_0000_0000,
             Some(FieldWidth::Bits64) => self.high,
         }
     }
@@ -47,6 +49,9 @@ impl Tail {
         ensures first { result.0 ≡ tail_number self % 256 ^ bytes_if layout.first }
         ensures second { result.1 ≡ tail_number self / 256 ^ bytes_if layout.first % 256 ^ bytes_if layout.second }
     {
-        (field_in(self.low, layout.first), field_in(self.after(layout.first), layout.second))
+        (
+            field_in(self.low, layout.first),
+            field_in(self.after(layout.first), layout.second),
+        )
     }
 }

@@ -239,7 +239,10 @@ fn to_target(opcode: u8, target: Target, high: u8) -> Parts
         Target::Immediate(raw) => Parts {
             first: first_byte(opcode, true, true),
             second: second_byte(0, high),
-            one: Some(Field { width: FieldWidth::Bits64, raw }),
+            one: Some(Field {
+                width: FieldWidth::Bits64,
+                raw,
+            }),
             other: None,
         },
         Target::Operand(to) => Parts {
@@ -322,7 +325,11 @@ fn with_compared(op: CmpOp, wide: bool, first: Operand, immediate: Field) -> Par
     ensures fit { AllFit result }
 {
     Parts {
-        first: first_byte(0x2d + place_of_comparison(op), wide, seven_of(immediate.width)),
+        first: first_byte(
+            0x2d + place_of_comparison(op),
+            wide,
+            seven_of(immediate.width),
+        ),
         second: second_byte(bits_of(first.place), bit_of(first.field.is_some())),
         one: field(FieldWidth::Bits16, first.field),
         other: Some(immediate),
@@ -340,7 +347,10 @@ fn with_moved(opcode: u8, first: Operand, given: u8, immediate: Field) -> Parts
 {
     Parts {
         first: first_byte(opcode, six_of(immediate.width), seven_of(immediate.width)),
-        second: second_byte(bits_of(first.place), given + 4 * bit_of(first.field.is_some())),
+        second: second_byte(
+            bits_of(first.place),
+            given + 4 * bit_of(first.field.is_some()),
+        ),
         one: field(FieldWidth::Bits16, first.field),
         other: Some(immediate),
     }
@@ -363,21 +373,61 @@ fn parts_of(ins: &Ins) -> Parts
 {
     match *ins {
         Ins::Break(code) => bare(0x00, break_code(code), 0),
-        Ins::Jump { when, relative, target } => to_target(0x01, target, jump_bits(when, relative)),
+        Ins::Jump {
+            when,
+            relative,
+            target,
+        } => to_target(0x01, target, jump_bits(when, relative)),
         Ins::ShortJump { when, distance } => short_jump(when, distance),
-        Ins::Call { native, relative, target } => to_target(0x03, target, bit_of(relative) + 2 * bit_of(native)),
+        Ins::Call {
+            native,
+            relative,
+            target,
+        } => to_target(0x03, target, bit_of(relative) + 2 * bit_of(native)),
         Ins::Return => bare(0x04, 0, 0),
-        Ins::Compare { op, wide, first, second } => on_two(0x05 + place_of_comparison(op), wide, first, second),
-        Ins::Compute { op, wide, first, second } => on_two(opcode_of_operation(op), wide, bits_of(first), second),
-        Ins::Move { moved, index, first, second } => with_two_indexes(opcode_of_move(moved, index), index, first, second),
-        Ins::MoveSigned { index, first, second } => with_two_indexes(0x25 + place_of_index(index), index, first, second),
-        Ins::MoveNatural { index, first, second } => with_two_indexes(0x32 + place_of_index(index), index, first, second),
+        Ins::Compare {
+            op,
+            wide,
+            first,
+            second,
+        } => on_two(0x05 + place_of_comparison(op), wide, first, second),
+        Ins::Compute {
+            op,
+            wide,
+            first,
+            second,
+        } => on_two(opcode_of_operation(op), wide, bits_of(first), second),
+        Ins::Move {
+            moved,
+            index,
+            first,
+            second,
+        } => with_two_indexes(opcode_of_move(moved, index), index, first, second),
+        Ins::MoveSigned {
+            index,
+            first,
+            second,
+        } => with_two_indexes(0x25 + place_of_index(index), index, first, second),
+        Ins::MoveNatural {
+            index,
+            first,
+            second,
+        } => with_two_indexes(0x32 + place_of_index(index), index, first, second),
         Ins::LoadFlags { register } => bare(0x29, 0, register),
         Ins::StoreSpecial { register, from } => bare(0x2a, register, number_of_special(from)),
         Ins::Stack { op, wide, operand } => on_one(0x2b + place_of_stack(op), wide, operand),
         Ins::StackNatural { op, operand } => on_one(0x35 + place_of_stack(op), false, operand),
-        Ins::CompareImmediate { op, wide, first, immediate } => with_compared(op, wide, first, immediate),
-        Ins::MoveImmediate { moved, first, immediate } => with_moved(0x37, first, number_of_width(moved), immediate),
+        Ins::CompareImmediate {
+            op,
+            wide,
+            first,
+            immediate,
+        } => with_compared(op, wide, first, immediate),
+        Ins::MoveImmediate {
+            moved,
+            first,
+            immediate,
+        } => with_moved(0x37, first, number_of_width(moved), immediate),
         Ins::MoveIndex { first, index } => with_moved(0x38, first, 0, index),
         Ins::MoveRelative { first, immediate } => with_moved(0x39, first, 0, immediate),
     }
@@ -405,11 +455,32 @@ fn joined(one: Option<Field>, other: Option<Field>) -> (u64, u64)
     };
     match one {
         None => (next, 0),
-        Some(Field { width: FieldWidth::Bits16, raw }) => {
-            (raw + next % 0x1_0000_0000_0000 * 0x1_0000, next / 0x1_0000_0000_0000)
+        Some(
+            Field {
+                width: FieldWidth::Bits16,
+                raw,
+            },
+        ) => {
+            (
+                raw + next % 0x1_0000_0000_0000 * 0x1_0000,
+                next / 0x1_0000_0000_0000,
+            )
         }
-        Some(Field { width: FieldWidth::Bits32, raw }) => (raw + next % 0x1_0000_0000 * 0x1_0000_0000, next / 0x1_0000_0000),
-        Some(Field { width: FieldWidth::Bits64, raw }) => (raw, next),
+        Some(
+            Field {
+                width: FieldWidth::Bits32,
+                raw,
+            },
+        ) => (
+            raw + next % 0x1_0000_0000 * 0x1_0000_0000,
+            next / 0x1_0000_0000,
+        ),
+        Some(
+            Field {
+                width: FieldWidth::Bits64,
+                raw,
+            },
+        ) => (raw, next),
     }
 }
 
@@ -420,7 +491,8 @@ fn all_bytes(first: u8, second: u8, low: u64, high: u64) -> [u8; 18]
     let l = low.to_le_bytes();
     let h = high.to_le_bytes();
     [
-        first, second, l[0], l[1], l[2], l[3], l[4], l[5], l[6], l[7], h[0], h[1], h[2], h[3], h[4], h[5], h[6], h[7],
+        first, second, l[0], l[1], l[2], l[3], l[4], l[5], l[6], l[7], h[0], h[1], h[2], h[3],
+        h[4], h[5], h[6], h[7],
     ]
 }
 

@@ -11,12 +11,12 @@ same : (c : goal.After-decode_words)
 same c =
     let third = c.from_le_bytes-third.ensures in
     fetched c.args.bytes.now c.args.n c.word_at.result c.word_at-2.result c.from_le_bytes-third.result
-        c.told-bytes c.fits-bytes c.requires c.word_at.ensures c.word_at-2.ensures (omega arith)
+    c.told-bytes c.fits-bytes c.requires c.word_at.ensures c.word_at-2.ensures (omega arith)
 
 pub returns-clause-found : goal.returns-clause-found
 returns-clause-found c =
     subst (λ (bytes : List ℕ). IfOk c.decode_words.result (λ (told : Ins × ℕ). IsInstruction bytes told.0 told.1))
-        (same c) c.decode_words.ensures.found
+    (same c) c.decode_words.ensures.found
 
 pub returns-clause-only : goal.returns-clause-only
 returns-clause-only c =

@@ -8,10 +8,10 @@ returns-in_err-layout-clause-only c =
 pub returns-clause-found : goal.returns-clause-found
 returns-clause-found c =
     length_found_at c.args.first c.args.second c.of.result c.in_ok-layout.field-0-0 c.in_ok-layout.layout c.length.result
-        c.ranges.first.fits c.ranges.second.fits c.of.ensures c.in_ok-layout.ensures.found c.in_ok-layout.ensures.fields
-        c.length.ensures
+    c.ranges.first.fits c.ranges.second.fits c.of.ensures c.in_ok-layout.ensures.found c.in_ok-layout.ensures.fields
+    c.length.ensures
 
 pub returns-clause-only : goal.returns-clause-only
 returns-clause-only c =
     length_told_at c.args.first c.args.second c.of.result c.in_ok-layout.field-0-0 c.in_ok-layout.layout c.length.result
-        c.of.ensures c.in_ok-layout.ensures.only c.length.ensures
+    c.of.ensures c.in_ok-layout.ensures.only c.length.ensures

@@ -8,8 +8,8 @@ returns-clause-bytes c =
     let parts = c.parts_of-parts.result in
     c.all_bytes.ensures
     ∙ written parts.first parts.second c.joined-low.result.0 c.joined-low.result.1 parts.one parts.other (spelling_of c.args.ins.now)
-        c.parts_of-parts.ensures.fit.one c.parts_of-parts.ensures.fit.other (omega (arith, c.joined-low.type_inv)) c.joined-low.ensures
-        c.parts_of-parts.ensures.bytes
+    c.parts_of-parts.ensures.fit.one c.parts_of-parts.ensures.fit.other (omega (arith, c.joined-low.type_inv)) c.joined-low.ensures
+    c.parts_of-parts.ensures.bytes
 
 pub returns-clause-length : goal.returns-clause-length
 returns-clause-length c =
