@@ -13,6 +13,8 @@ mod opcode;
 mod operand;
 mod reading;
 mod rows;
+#[cfg(test)]
+mod samples;
 mod tail;
 #[cfg(test)]
 mod tests;
