@@ -1,11 +1,11 @@
 -- Bytes that were fetched, and bytes of any length.
-use Rattle.std.proofs.Common.{◌≡◌, ℕ, zero, suc, ◌+◌, ◌-◌, ◌*◌, ◌/◌, ◌%◌, ◌^◌, ◌<◌, ◌≤◌, min, List, [], ◌∷◌, ◌++◌, length, take, drop, get_or, Result, Ok, Err, IfOk, refl, sym, ap, ◌∙◌, subst, append_assoc, length-append, arith}
-use Rattle.std.proofs.lemmas.List.{take_at, take_all, take-take, take-append-drop, drop-drop, drop_more, drop_all, length-drop, length-take-le}
+use Rattle.std.proofs.Common.{◌≡◌, ℕ, ◌+◌, ◌-◌, ◌*◌, ◌/◌, ◌%◌, ◌^◌, ◌<◌, ◌≤◌, min, List, [], ◌∷◌, ◌++◌, length, take, drop, get_or, Result, Ok, Err, IfOk, refl, sym, ap, ◌∙◌, append_assoc, length-append, arith}
+use Rattle.std.proofs.lemmas.List.{take_at, take-take, take-append-drop, drop-drop, drop_more, drop_all, length-drop, length-take-le}
 use Rattle.ebc_decode.specs.declared.ins.Ins.{Ins}
 use Rattle.ebc_decode.specs.declared.reading.EncodingFault.{EncodingFault}
 use Rattle.ebc_decode.specs.Bytes.{little, BeginsWith}
 use Rattle.ebc_decode.specs.Spelling.{spelling_of}
-use Rattle.ebc_decode.specs.Reading.{size_of, IsInstruction, TellsEach}
+use Rattle.ebc_decode.specs.Reading.{IsInstruction, TellsEach}
 use Rattle.ebc_decode.specs.ReadingInside.{number_of, number_in, head_in}
 use Rattle.ebc_decode.proofs.ByteLemmas.{length-little, little-add, little-number_of, number_of-append}
 use Rattle.ebc_decode.proofs.WordLemmas.{head_of, tail_of, two_to_eighteen}

@@ -1,7 +1,6 @@
 -- Each lawful instruction is made of two bytes that are accepted, and of the fields that follow.
-use Rattle.std.proofs.Common.{◌≡◌, ℕ, ◌+◌, ◌*◌, ◌/◌, ◌%◌, ◌^◌, ◌<◌, ◌≤◌, Bool, true, false, not, ◌&&◌, ◌||◌, if◌then◌else◌, nat_lt, nat_le, ◌==◌, Option, Some, None, is_some, refl, sym, ap, ◌∙◌, subst, arith}
+use Rattle.std.proofs.Common.{◌≡◌, ℕ, ◌+◌, ◌*◌, ◌/◌, ◌%◌, ◌^◌, ◌<◌, Bool, true, false, not, ◌&&◌, ◌||◌, if◌then◌else◌, nat_lt, nat_le, ◌==◌, Option, Some, None, refl, sym, ap, ◌∙◌, subst, arith}
 use Rattle.std.proofs.lemmas.Bool.{and_from, true_from_ne_false}
-use Rattle.mm_base.specs.declared.operation.AluOp.{AluOp}
 use Rattle.mm_base.specs.declared.operation.CmpOp.{CmpOp}
 use Rattle.ebc_decode.specs.declared.choices.BreakCode.{BreakCode}
 use Rattle.ebc_decode.specs.declared.choices.BreakCode.TheVariants.{Runaway, Version, Breakpoint, SystemCall, Thunk, CompilerVersion}
@@ -18,15 +17,14 @@ use Rattle.ebc_decode.specs.declared.operand.Place.{Place}
 use Rattle.ebc_decode.specs.declared.operand.Operand.{Operand}
 use Rattle.ebc_decode.specs.declared.operand.Target.{Target}
 use Rattle.ebc_decode.specs.declared.operand.Target.TheVariants as targets
-use Rattle.ebc_decode.specs.declared.head.Head.{Head}
 use Rattle.ebc_decode.specs.declared.ins.Ins.{Ins}
 use Rattle.ebc_decode.specs.declared.ins.Ins.TheVariants as ins
 use Rattle.ebc_decode.specs.declared.opcode.Opcode.{Opcode}
 use Rattle.ebc_decode.specs.declared.opcode.Opcode.TheVariants as opcodes
-use Rattle.ebc_decode.specs.Spelling.{bit, bytes_in, place_bits, break_number, is_conditional, wanted_carry, width_number, immediate_six, immediate_seven}
-use Rattle.ebc_decode.specs.Lawful.{IsRegister, FitsIn, HasIndex, IsShort, IsOperand, IsTarget, IsField, IsJumpTarget, IsLawful}
+use Rattle.ebc_decode.specs.Spelling.{bit, bytes_in, place_bits, is_conditional, wanted_carry, width_number, immediate_six, immediate_seven}
+use Rattle.ebc_decode.specs.Lawful.{FitsIn, IsShort, IsTarget, IsField, IsJumpTarget, IsLawful}
 use Rattle.ebc_decode.specs.ReadingInside.{opcode_number, IsListed, place_in, has_no_bits, has_jump_bits, is_break, may_index, accepts, break_with, condition_with, width_with, operand_with, width_if, widths, bytes_if, built}
-use Rattle.ebc_decode.proofs.HeadLemmas.{IsHead, with_fields, place_bits-place_in}
+use Rattle.ebc_decode.proofs.HeadLemmas.{with_fields, place_bits-place_in}
 
 -- What an instruction is made of.
 pub record Form (instruction : Ins) : Type 0 where

@@ -1,5 +1,5 @@
 -- The first two bytes, and their fields.
-use Rattle.std.proofs.Common.{◌≡◌, ℕ, ◌+◌, ◌*◌, ◌/◌, ◌%◌, ◌<◌, Bool, true, false, ◌==◌, refl, sym, ap, ◌∙◌, arith}
+use Rattle.std.proofs.Common.{◌≡◌, ℕ, ◌+◌, ◌*◌, ◌/◌, ◌%◌, ◌<◌, Bool, true, false, ◌==◌, ap, ◌∙◌, arith}
 use Rattle.ebc_decode.specs.declared.operand.Place.{Place}
 use Rattle.ebc_decode.specs.declared.head.Head.{Head}
 use Rattle.ebc_decode.specs.Spelling.{bit, place_bits}

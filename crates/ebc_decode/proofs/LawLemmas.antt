@@ -1,5 +1,5 @@
 -- No spelling begins with another one.
-use Rattle.std.proofs.Common.{◌≡◌, ℕ, zero, suc, ◌+◌, ◌*◌, ◌/◌, ◌%◌, ◌<◌, Bool, true, false, List, [], ◌∷◌, ◌++◌, length, get_or, refl, sym, ap, ◌∙◌, subst, arith}
+use Rattle.std.proofs.Common.{◌≡◌, ℕ, zero, suc, ◌/◌, ◌<◌, List, [], ◌∷◌, ◌++◌, length, get_or, sym, ap, ◌∙◌, subst, arith}
 use Rattle.std.proofs.lemmas.List.{append-nil}
 use Rattle.ebc_decode.specs.declared.ins.Ins.{Ins}
 use Rattle.ebc_decode.specs.declared.opcode.Opcode.{Opcode}
@@ -9,7 +9,7 @@ use Rattle.ebc_decode.specs.Lawful.{IsLawful}
 use Rattle.ebc_decode.specs.ReadingInside.{number_of, widths, bytes_if, head_in}
 use Rattle.ebc_decode.proofs.ByteLemmas.{little-number_of}
 use Rattle.ebc_decode.proofs.TableLemmas.{same_opcode}
-use Rattle.ebc_decode.proofs.ReadLemmas.{made_of, Spelled, spelled}
+use Rattle.ebc_decode.proofs.ReadLemmas.{made_of, spelled}
 use Rattle.ebc_decode.proofs.WordLemmas.{head_of, tail_of, Held, held}
 
 -- two instructions with which the bytes of one number begin are one

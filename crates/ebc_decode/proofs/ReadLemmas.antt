@@ -1,22 +1,19 @@
 -- Bytes and the instruction that they begin with.
-use Rattle.std.proofs.Common.{◌≡◌, ℕ, zero, suc, ◌+◌, ◌*◌, ◌/◌, ◌%◌, ◌^◌, ◌<◌, ◌≤◌, Bool, true, false, List, [], ◌∷◌, ◌++◌, length, take, drop, get_or, Option, Some, None, Result, Ok, Err, refl, sym, ap, ◌∙◌, subst, append_assoc, length-append, arith}
-use Rattle.std.proofs.lemmas.List.{take_at}
+use Rattle.std.proofs.Common.{◌≡◌, ℕ, zero, suc, ◌+◌, ◌*◌, ◌/◌, ◌%◌, ◌^◌, ◌<◌, List, ◌∷◌, ◌++◌, length, refl, sym, ap, ◌∙◌, subst, length-append, arith}
 use Rattle.std.proofs.Math.Nat.{pow-suc, mod-lt}
 use Rattle.ebc_decode.specs.declared.ins.Ins.{Ins}
 use Rattle.ebc_decode.specs.declared.head.Head.{Head}
-use Rattle.ebc_decode.specs.declared.layout.Layout.{Layout}
 use Rattle.ebc_decode.specs.declared.opcode.Opcode.{Opcode}
-use Rattle.ebc_decode.specs.declared.reading.EncodingFault.{EncodingFault}
-use Rattle.ebc_decode.specs.Bytes.{little, BeginsWith}
-use Rattle.ebc_decode.specs.Spelling.{bit, place_bits, spelling_of}
+use Rattle.ebc_decode.specs.Bytes.{little}
+use Rattle.ebc_decode.specs.Spelling.{bit, spelling_of}
 use Rattle.ebc_decode.specs.Lawful.{IsLawful}
-use Rattle.ebc_decode.specs.Reading.{size_of, IsInstruction, TellsEach, BeginsInstruction, TellsEachLength}
-use Rattle.ebc_decode.specs.ReadingInside.{opcode_number, accepts, widths, bytes_if, layout_length, built, head_in, Begins, BeginsOnly}
-use Rattle.ebc_decode.proofs.ByteLemmas.{length-little, little-add, little-fields, fields-little}
+use Rattle.ebc_decode.specs.Reading.{size_of}
+use Rattle.ebc_decode.specs.ReadingInside.{opcode_number, widths, bytes_if, layout_length, built, head_in, Begins}
+use Rattle.ebc_decode.proofs.ByteLemmas.{length-little, little-fields}
 use Rattle.ebc_decode.proofs.HeadLemmas.{IsHead, with_fields, byte_0, byte_0-lt, place_bits-lt, head_in-is, byte_0-head_in, head_in-back}
-use Rattle.ebc_decode.proofs.SoundLemmas.{Sound, sound, bytes_with}
-use Rattle.ebc_decode.proofs.FormLemmas.{Form, form}
-use Rattle.ebc_decode.proofs.TableLemmas.{number_below, same_opcode}
+use Rattle.ebc_decode.proofs.SoundLemmas.{sound}
+use Rattle.ebc_decode.proofs.FormLemmas.{form}
+use Rattle.ebc_decode.proofs.TableLemmas.{number_below}
 
 -- the fields that follow, in the number after the first two bytes
 abbrev pub first_of : Opcode → Head → ℕ → ℕ

@@ -1,17 +1,13 @@
 -- What the rows of the table accept: bits, and the fields that follow.
-use Rattle.std.proofs.Common.{◌≡◌, ◌≢◌, ℕ, zero, suc, ◌+◌, ◌*◌, ◌/◌, ◌%◌, ◌^◌, ◌<◌, ◌≤◌, Bool, true, false, not, ◌&&◌, ◌||◌, if◌then◌else◌, nat_lt, nat_le, ◌==◌, List, [], ◌∷◌, ◌++◌, length, Option, Some, None, is_some, refl, sym, ap, ◌∙◌, subst, arith}
+use Rattle.std.proofs.Common.{◌≡◌, ℕ, zero, suc, ◌+◌, ◌*◌, ◌/◌, ◌%◌, ◌^◌, ◌<◌, Bool, true, false, not, ◌&&◌, ◌||◌, if◌then◌else◌, nat_lt, nat_le, ◌==◌, List, [], ◌++◌, Some, None, is_some, refl, sym, ◌∙◌, arith}
 use Rattle.std.proofs.lemmas.List.{append-nil}
-use Rattle.std.proofs.lemmas.Bool.{false≢true, true_from_ne_false, and_parts, not-true, eqb-true, ltb-true}
-use Rattle.ebc_decode.specs.declared.choices.Condition.{Condition}
-use Rattle.ebc_decode.specs.declared.choices.Condition.TheVariants.{Always, CarryClear, CarrySet}
-use Rattle.ebc_decode.specs.declared.operand.Width.{Width}
+use Rattle.std.proofs.lemmas.Bool.{false≢true, and_parts, eqb-true}
 use Rattle.ebc_decode.specs.declared.operand.FieldWidth.{FieldWidth}
-use Rattle.ebc_decode.specs.declared.operand.FieldWidth.TheVariants.{Bits16, Bits32, Bits64}
 use Rattle.ebc_decode.specs.declared.operand.Place.{Place}
 use Rattle.ebc_decode.specs.Bytes.{little, field_bytes}
 use Rattle.ebc_decode.specs.Spelling.{bit, bytes_in, place_bits, break_number, is_conditional, wanted_carry, width_number, special_number}
 use Rattle.ebc_decode.specs.Lawful.{FitsIn}
-use Rattle.ebc_decode.specs.ReadingInside.{has_no_bits, has_jump_bits, is_break, may_index, width_if, bytes_if, break_with, width_with, condition_with, special_with}
+use Rattle.ebc_decode.specs.ReadingInside.{has_no_bits, has_jump_bits, is_break, width_if, bytes_if, break_with, width_with, condition_with, special_with}
 
 -- ---- three bits
 

@@ -1,17 +1,17 @@
 -- What is made of two bytes that are accepted, and of the fields that follow, is spelled by them.
-use Rattle.std.proofs.Common.{◌≡◌, ℕ, ◌+◌, ◌*◌, ◌/◌, ◌%◌, ◌^◌, ◌<◌, Bool, true, false, not, ◌&&◌, ◌||◌, if◌then◌else◌, nat_lt, nat_le, ◌==◌, List, [], ◌∷◌, ◌++◌, Option, Some, None, is_some, refl, sym, ap, ◌∙◌, subst, arith}
-use Rattle.std.proofs.lemmas.Bool.{false≢true, and_parts, eqb-true, ltb-true}
+use Rattle.std.proofs.Common.{◌≡◌, ℕ, ◌+◌, ◌*◌, ◌%◌, ◌^◌, ◌<◌, Bool, true, false, not, ◌&&◌, ◌||◌, if◌then◌else◌, nat_lt, nat_le, ◌==◌, List, ◌∷◌, ◌++◌, Some, refl, sym, ap, ◌∙◌, arith}
+use Rattle.std.proofs.lemmas.Bool.{false≢true, and_parts, ltb-true}
 use Rattle.ebc_decode.specs.declared.operand.FieldWidth.{FieldWidth}
 use Rattle.ebc_decode.specs.declared.operand.FieldWidth.TheVariants.{Bits16, Bits32, Bits64}
 use Rattle.ebc_decode.specs.declared.operand.Place.{Place}
 use Rattle.ebc_decode.specs.declared.head.Head.{Head}
 use Rattle.ebc_decode.specs.declared.opcode.Opcode.{Opcode}
 use Rattle.ebc_decode.specs.declared.opcode.Opcode.TheVariants as opcodes
-use Rattle.ebc_decode.specs.Bytes.{little, field_bytes}
+use Rattle.ebc_decode.specs.Bytes.{little}
 use Rattle.ebc_decode.specs.Spelling.{bit, bytes_in, place_bits, is_conditional, wanted_carry, with_target, with_immediate, immediate_six, immediate_seven, spelling_of}
-use Rattle.ebc_decode.specs.Lawful.{FitsIn, IsShort, IsOperand, IsTarget, IsField, IsJumpTarget, IsLawful}
+use Rattle.ebc_decode.specs.Lawful.{IsShort, IsOperand, IsTarget, IsJumpTarget, IsLawful}
 use Rattle.ebc_decode.specs.ReadingInside.{opcode_number, IsListed, has_no_bits, is_bare, may_index, names_target, has_immediate, accepts, condition_with, indexed, immediate_with, width_if, target_width, immediate_width, compared_width, widths, bytes_if, operand_with, target_with, built}
-use Rattle.ebc_decode.proofs.RowLemmas.{bit-false, IsZero, zero_place, index_taken, some-if, bytes-if, fits-if, alone, neither, break_bits, jump_bits, call_bits, special_bits, moved_bits, index_bits, bit-test}
+use Rattle.ebc_decode.proofs.RowLemmas.{bit-false, zero_place, index_taken, some-if, bytes-if, fits-if, alone, neither, break_bits, jump_bits, call_bits, special_bits, moved_bits, index_bits, bit-test}
 use Rattle.ebc_decode.proofs.HeadLemmas.{IsHead, place_bits-lt}
 
 -- the bytes of an opcode, the first two bytes' fields and the fields that follow

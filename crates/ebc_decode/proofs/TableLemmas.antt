@@ -1,5 +1,5 @@
 -- The table of opcodes.
-use Rattle.std.proofs.Common.{◌≡◌, ℕ, zero, suc, ◌+◌, ◌<◌, ◌≤◌, inl, inr, Bool, true, false, ◌&&◌, ◌==◌, List, [], ◌∷◌, length, get_or, Option, Some, None, IfSome, refl, sym, ap, ◌∙◌, subst, arith}
+use Rattle.std.proofs.Common.{◌≡◌, ℕ, zero, suc, ◌+◌, ◌<◌, ◌≤◌, inl, inr, Bool, true, false, ◌&&◌, ◌==◌, List, [], ◌∷◌, get_or, Option, Some, None, IfSome, refl, sym, ap, ◌∙◌, subst, arith}
 use Rattle.std.proofs.lemmas.Bool.{false≢true, and_parts, eqb-true, cases_lt}
 use Rattle.std.proofs.lemmas.List.{get_or_past}
 use Rattle.mm_base.specs.declared.operation.AluOp.{AluOp}
@@ -15,7 +15,7 @@ use Rattle.ebc_decode.specs.declared.operand.FieldWidth.TheVariants.{Bits16, Bit
 use Rattle.ebc_decode.specs.declared.opcode.Opcode.{Opcode}
 use Rattle.ebc_decode.specs.declared.opcode.Opcode.TheVariants as opcodes
 use Rattle.ebc_decode.specs.declared.opcode.TheConstants.{OPCODES}
-use Rattle.ebc_decode.specs.Spelling.{compare_number, compute_opcode, width_number, move_opcode, index_number, stack_number}
+use Rattle.ebc_decode.specs.Spelling.{compare_number, compute_opcode, move_opcode, index_number, stack_number}
 use Rattle.ebc_decode.specs.Lawful.{HasIndex, IsShort}
 use Rattle.ebc_decode.specs.ReadingInside.{opcode_number, IsListed, IsOpcode, TellsOpcode}
 

@@ -1,15 +1,15 @@
 -- What the code tells, by the values that it has.
-use Rattle.std.proofs.Common.{◌≡◌, ℕ, ◌+◌, ◌*◌, ◌/◌, ◌%◌, ◌^◌, ◌<◌, ◌≤◌, List, [], ◌∷◌, ◌++◌, length, take, drop, Option, Some, None, Result, Ok, Err, refl, sym, ap, ◌∙◌, subst, arith}
+use Rattle.std.proofs.Common.{◌≡◌, ℕ, ◌/◌, ◌%◌, ◌^◌, ◌<◌, ◌≤◌, Result, Ok, Err, sym, ap, ◌∙◌, subst}
 use Rattle.ebc_decode.specs.declared.ins.Ins.{Ins}
 use Rattle.ebc_decode.specs.declared.head.Head.{Head}
 use Rattle.ebc_decode.specs.declared.layout.Layout.{Layout}
 use Rattle.ebc_decode.specs.declared.opcode.Opcode.{Opcode}
 use Rattle.ebc_decode.specs.declared.reading.EncodingFault.{EncodingFault}
 use Rattle.ebc_decode.specs.Bytes.{little}
-use Rattle.ebc_decode.specs.Reading.{size_of, IsInstruction, TellsEach, BeginsInstruction, TellsEachLength}
+use Rattle.ebc_decode.specs.Reading.{IsInstruction, TellsEach, BeginsInstruction, TellsEachLength}
 use Rattle.ebc_decode.specs.ReadingInside.{widths, bytes_if, layout_length, built, head_in, Begins, BeginsOnly}
 use Rattle.ebc_decode.proofs.ReadLemmas.{made_of}
-use Rattle.ebc_decode.proofs.WordLemmas.{head_of, tail_of, Held, held, owned, length_found, length_told, words_told, words_short, words_found}
+use Rattle.ebc_decode.proofs.WordLemmas.{head_of, tail_of, held, owned, length_found, length_told, words_told, words_short, words_found}
 
 -- ---- lengths
 

@@ -1,5 +1,5 @@
 -- What is told of bytes that stand in words.
-use Rattle.std.proofs.Common.{◌≡◌, ℕ, zero, suc, ◌+◌, ◌-◌, ◌*◌, ◌/◌, ◌%◌, ◌^◌, ◌<◌, ◌≤◌, List, [], ◌∷◌, ◌++◌, length, take, drop, get_or, Option, Some, None, Result, Ok, Err, refl, sym, ap, ◌∙◌, subst, length-append, arith}
+use Rattle.std.proofs.Common.{◌≡◌, ℕ, suc, ◌+◌, ◌-◌, ◌/◌, ◌%◌, ◌^◌, ◌<◌, ◌≤◌, List, ◌∷◌, ◌++◌, length, take, Option, Some, None, Result, Ok, Err, refl, sym, ap, ◌∙◌, subst, length-append, arith}
 use Rattle.std.proofs.lemmas.List.{take_at}
 use Rattle.ebc_decode.specs.declared.operand.FieldWidth.{FieldWidth}
 use Rattle.ebc_decode.specs.declared.operand.FieldWidth.TheVariants.{Bits16, Bits32, Bits64}
@@ -14,7 +14,7 @@ use Rattle.ebc_decode.specs.Lawful.{IsLawful}
 use Rattle.ebc_decode.specs.Reading.{size_of, IsInstruction, TellsEach, BeginsInstruction, TellsEachLength}
 use Rattle.ebc_decode.specs.ReadingInside.{widths, bytes_if, layout_length, built, head_in, Begins, BeginsOnly}
 use Rattle.ebc_decode.proofs.ByteLemmas.{length-little, little-add, fields-little}
-use Rattle.ebc_decode.proofs.ReadLemmas.{made_of, Spelled, spelled, size_of-spelled, makes}
+use Rattle.ebc_decode.proofs.ReadLemmas.{made_of, spelled, size_of-spelled, makes}
 
 -- what is told, part by part
 told_parts : (told other : Opcode × Layout) (result : Result (Opcode × Layout) EncodingFault)

@@ -1,11 +1,10 @@
 -- Which instructions have a spelling: those whose fields fit the bits that the table of opcodes has for them.
-use Rattle.std.specs.Prelude.{◌≡◌, ℕ, ◌^◌, ◌<◌, Bool, true, false, Option, Some, None}
+use Rattle.std.specs.Prelude.{◌≡◌, ℕ, ◌^◌, ◌<◌, false, Option, Some, None}
 use Rattle.ebc_decode.specs.declared.operand.Width.{Width}
 use Rattle.ebc_decode.specs.declared.operand.Width.TheVariants.{Quad}
 use Rattle.ebc_decode.specs.declared.operand.FieldWidth.{FieldWidth}
 use Rattle.ebc_decode.specs.declared.operand.FieldWidth.TheVariants.{Bits16, Bits32, Bits64}
 use Rattle.ebc_decode.specs.declared.operand.Field.{Field}
-use Rattle.ebc_decode.specs.declared.operand.Place.{Place}
 use Rattle.ebc_decode.specs.declared.operand.Operand.{Operand}
 use Rattle.ebc_decode.specs.declared.operand.Target.{Target}
 use Rattle.ebc_decode.specs.declared.operand.Target.TheVariants as targets

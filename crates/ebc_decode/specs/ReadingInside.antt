@@ -1,8 +1,6 @@
 -- No public clause cites this file.
 -- The first two bytes as fields, which of them begin an instruction, and what instruction they make of the fields that follow.
-use Rattle.std.specs.Prelude.{◌≡◌, ℕ, ◌+◌, ◌*◌, ◌/◌, ◌%◌, ◌^◌, Bool, true, false, not, ◌&&◌, ◌||◌, ◌==◌, nat_lt, nat_le, if◌then◌else◌, List, [], ◌∷◌, Option, Some, None, Result, Ok}
-use Rattle.mm_base.specs.declared.operation.AluOp.{AluOp}
-use Rattle.mm_base.specs.declared.operation.CmpOp.{CmpOp}
+use Rattle.std.specs.Prelude.{◌≡◌, ℕ, ◌+◌, ◌*◌, ◌/◌, ◌%◌, ◌^◌, Bool, true, not, ◌&&◌, ◌||◌, ◌==◌, nat_lt, nat_le, if◌then◌else◌, List, [], ◌∷◌, Option, Some, None, Result, Ok}
 use Rattle.ebc_decode.specs.declared.choices.BreakCode.{BreakCode}
 use Rattle.ebc_decode.specs.declared.choices.BreakCode.TheVariants.{Runaway, Version, Breakpoint, SystemCall, Thunk, CompilerVersion}
 use Rattle.ebc_decode.specs.declared.choices.Condition.{Condition}

@@ -1,7 +1,7 @@
 -- The spelling of each instruction, field by field: UEFI 2.10, chapter 22. Byte 0 has the opcode in bits 0 to 5, then b6 and b7.
 -- Byte 1 has operand 1 in bits 0 to 3 and operand 2 in bits 4 to 7, unless it is said otherwise. Bits that a row doesn't name
 -- are 0.
-use Rattle.std.specs.Prelude.{ℕ, ◌+◌, ◌*◌, Bool, true, false, List, [], ◌∷◌, ◌++◌, Option, Some, None, is_some}
+use Rattle.std.specs.Prelude.{ℕ, ◌+◌, ◌*◌, Bool, true, false, List, [], ◌∷◌, ◌++◌, is_some}
 use Rattle.mm_base.specs.declared.operation.AluOp.{AluOp}
 use Rattle.mm_base.specs.declared.operation.AluOp.TheVariants as alu
 use Rattle.mm_base.specs.declared.operation.CmpOp.{CmpOp}

@@ -1,6 +1,6 @@
 -- No public clause cites this file.
 -- An instruction's bytes as two bytes and up to two fields.
-use Rattle.std.specs.Prelude.{◌≡◌, ℕ, ◌+◌, ◌*◌, ◌^◌, ◌<◌, List, [], ◌∷◌, ◌++◌, Option, Some, None}
+use Rattle.std.specs.Prelude.{ℕ, ◌+◌, ◌*◌, ◌^◌, ◌<◌, List, [], ◌∷◌, ◌++◌, Option, Some, None}
 use Rattle.ebc_decode.specs.declared.operand.FieldWidth.{FieldWidth}
 use Rattle.ebc_decode.specs.declared.operand.Field.{Field}
 use Rattle.ebc_decode.specs.declared.writing.Parts.{Parts}

@@ -4,6 +4,24 @@ ghost use Rattle.ebc_decode.specs.ReadingInside.{head_in, place_in};
 
 use crate::operand::Place;
 
+/// Bit 6 of byte 0.
+pub(crate) const SIX: u8 = 0x40;
+
+/// Bit 7 of byte 0.
+pub(crate) const SEVEN: u8 = 0x80;
+
+/// How many registers there are; in four bits that are a place, the bit that makes it indirect.
+pub(crate) const REGISTERS: u8 = 8;
+
+/// Bit 4 of byte 1: the first of its high bits.
+pub(crate) const HIGH: u8 = 0x10;
+
+/// Bit 5 of byte 1, in the register of its high bits.
+pub(crate) const BIT_5: u8 = 2;
+
+/// Bit 6 of byte 1, in the register of its high bits.
+pub(crate) const BIT_6: u8 = 4;
+
 /// The fields of the first two bytes.
 #[derive(Clone, Copy)]
 pub(crate) struct Head {
@@ -27,8 +45,8 @@ fn place_in_bits(bits: u8) -> Place
     ensures { result ≡ place_in bits }
 {
     Place {
-        register: bits % 8,
-        indirect: bits / 8 == 1,
+        register: bits % REGISTERS,
+        indirect: bits / REGISTERS == 1,
     }
 }
 
@@ -39,11 +57,11 @@ impl Head {
         ensures { result ≡ head_in first second }
     {
         Head {
-            opcode: first % 64,
-            six: first / 64 % 2 == 1,
-            seven: first / 128 == 1,
-            first: place_in_bits(second % 16),
-            second: place_in_bits(second / 16),
+            opcode: first % SIX,
+            six: first / SIX % 2 == 1,
+            seven: first / SEVEN == 1,
+            first: place_in_bits(second % HIGH),
+            second: place_in_bits(second / HIGH),
             byte: second,
         }
     }

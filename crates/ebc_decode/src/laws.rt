@@ -5,7 +5,7 @@ ghost use Rattle.ebc_decode.specs.Reading.{size_of};
 ghost use Rattle.ebc_decode.specs.Laws.{OneInstruction, NoneBeginsAnother, HasTwoToEighteen};
 
 use crate::ins::Ins;
-use crate::reading::{EncodingFault, decode};
+use crate::reading::{EncodingFault, MOST_BYTES, decode};
 use crate::writing::encode;
 
 /// A spelling is that of one instruction.
@@ -20,7 +20,8 @@ pub fn none_begins_another()
 
 /// An instruction has 2 to 18 bytes.
 pub fn two_to_eighteen()
-    ensures { HasTwoToEighteen }
+    ensures sizes { HasTwoToEighteen }
+    ensures most { MOST_BYTES ≡ 18 }
 {}
 
 /// An instruction that was encoded is decoded as it was, with its length.

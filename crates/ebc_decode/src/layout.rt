@@ -4,7 +4,7 @@ ghost use Rattle.ebc_decode.specs.ReadingInside.{has_no_bits, is_bare, may_index
 ghost use Rattle.ebc_decode.specs.ReadingInside.{has_index_bit, has_immediate, accepts};
 ghost use Rattle.ebc_decode.specs.ReadingInside.{width_if, target_width, immediate_width, compared_width, widths, bytes_if, layout_length};
 
-use crate::head::Head;
+use crate::head::{BIT_5, BIT_6, Head};
 use crate::opcode::Opcode;
 use crate::operand::{FieldWidth, Place};
 
@@ -79,7 +79,7 @@ fn is_target(head: Head) -> bool
 fn is_jump(bits: Place) -> bool
     ensures { result ≡ has_jump_bits bits }
 {
-    bits.register / 2 % 2 == 0 && (bits.register < 4 || bits.indirect)
+    bits.register / BIT_5 % 2 == 0 && (bits.register < BIT_6 || bits.indirect)
 }
 
 /// Whether BREAK has a code.
@@ -96,7 +96,7 @@ fn is_comparison(head: Head) -> bool
     ensures { result ≡ has_index_bit head }
 {
     !head.second.indirect
-        && head.second.register < 2
+        && head.second.register < BIT_5
         && takes_index(head.second.register == 1, head.first)
 }
 
@@ -107,7 +107,7 @@ fn is_immediate(head: Head) -> bool
 {
     !head.second.indirect
         && (head.six || head.seven)
-        && takes_index(head.second.register >= 4, head.first)
+        && takes_index(head.second.register >= BIT_6, head.first)
 }
 
 /// Whether two bytes with this opcode begin an instruction.
@@ -119,7 +119,7 @@ pub(crate) fn is_accepted(opcode: Opcode, head: Head) -> bool
         Opcode::Break => is_plain(head) && is_break_code(head.first) && is_zero(head.second),
         Opcode::Jump => is_target(head) && is_jump(head.second),
         Opcode::ShortJump => head.seven || !head.six,
-        Opcode::Call => is_target(head) && (!head.second.indirect && head.second.register < 4),
+        Opcode::Call => is_target(head) && (!head.second.indirect && head.second.register < BIT_6),
         Opcode::Return => is_plain(head) && is_zero(head.first) && is_zero(head.second),
         Opcode::Compare(_) => !head.first.indirect,
         Opcode::Compute(_) => true,
@@ -130,14 +130,14 @@ pub(crate) fn is_accepted(opcode: Opcode, head: Head) -> bool
         Opcode::StoreSpecial => {
             is_plain(head)
                 && !head.first.indirect
-                && (!head.second.indirect && head.second.register < 2)
+                && (!head.second.indirect && head.second.register < BIT_5)
         }
         Opcode::Stack(_) => is_zero(head.second),
         Opcode::StackNatural(_) => !head.six && is_zero(head.second),
         Opcode::CompareImmediate(_) => is_comparison(head),
         Opcode::MoveImmediate => is_immediate(head),
         Opcode::MoveIndex | Opcode::MoveRelative => is_immediate(head)
-            && head.second.register % 4 == 0,
+            && head.second.register % BIT_6 == 0,
     }
 }
 
@@ -217,7 +217,7 @@ pub(crate) fn fields_after(opcode: Opcode, head: Head) -> Layout
             second: Some(width_of_compared(head)),
         },
         Opcode::MoveImmediate | Opcode::MoveIndex | Opcode::MoveRelative => Layout {
-            first: width_where(head.second.register >= 4, FieldWidth::Bits16),
+            first: width_where(head.second.register >= BIT_6, FieldWidth::Bits16),
             second: Some(width_of_immediate(head)),
         },
     }

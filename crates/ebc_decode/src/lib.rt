@@ -23,5 +23,5 @@ mod writing;
 pub use choices::{BreakCode, Condition, Special, StackOp};
 pub use ins::Ins;
 pub use operand::{Field, FieldWidth, Operand, Place, Target, Width};
-pub use reading::{EncodingFault, decode, decode_fetched, length};
+pub use reading::{EncodingFault, MOST_BYTES, decode, decode_fetched, length};
 pub use writing::encode;

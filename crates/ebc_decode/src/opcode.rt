@@ -6,6 +6,56 @@ use crate::choices::StackOp;
 use crate::operand::{FieldWidth, Width};
 use mm_base::{AluOp, CmpOp};
 
+pub(crate) const BREAK: u8 = 0x00;
+
+pub(crate) const JUMP: u8 = 0x01;
+
+pub(crate) const SHORT_JUMP: u8 = 0x02;
+
+pub(crate) const CALL: u8 = 0x03;
+
+pub(crate) const RETURN: u8 = 0x04;
+
+/// The first of five, one a comparison.
+pub(crate) const COMPARE: u8 = 0x05;
+
+/// The first of four with indexes of 16 bits, one a width of what is moved.
+pub(crate) const MOVE_BY_16: u8 = 0x1d;
+
+/// The first of four with indexes of 32 bits.
+pub(crate) const MOVE_BY_32: u8 = 0x21;
+
+/// The one with indexes of 64 bits.
+pub(crate) const MOVE_BY_64: u8 = 0x28;
+
+/// The first of two, with indexes of 16 and of 32 bits.
+pub(crate) const MOVE_SIGNED: u8 = 0x25;
+
+pub(crate) const LOAD_FLAGS: u8 = 0x29;
+
+pub(crate) const STORE_SPECIAL: u8 = 0x2a;
+
+/// The first of two: PUSH and POP.
+pub(crate) const STACK: u8 = 0x2b;
+
+/// The first of five, one a comparison.
+pub(crate) const COMPARE_IMMEDIATE: u8 = 0x2d;
+
+/// The first of two, with indexes of 16 and of 32 bits.
+pub(crate) const MOVE_NATURAL: u8 = 0x32;
+
+/// The first of two: PUSHN and POPN.
+pub(crate) const STACK_NATURAL: u8 = 0x35;
+
+pub(crate) const MOVE_IMMEDIATE: u8 = 0x37;
+
+pub(crate) const MOVE_INDEX: u8 = 0x38;
+
+pub(crate) const MOVE_RELATIVE: u8 = 0x39;
+
+/// How many numbers of opcodes there are.
+pub(crate) const NUMBERS: usize = 64;
+
 /// An opcode: its row of the table, and which of the row's opcodes it is.
 #[derive(Clone, Copy)]
 pub(crate) enum Opcode {
@@ -30,7 +80,7 @@ pub(crate) enum Opcode {
 }
 
 /// The opcode of each number below 64.
-static OPCODES: [Option<Opcode>; 64] = [
+static OPCODES: [Option<Opcode>; NUMBERS] = [
     Some(Opcode::Break),
     Some(Opcode::Jump),
     Some(Opcode::ShortJump),

@@ -9,7 +9,13 @@ use crate::ins::Ins;
 use crate::layout::{Layout, fields_after, is_accepted};
 use crate::opcode::{Opcode, opcode_at};
 use crate::rows::build;
-use crate::tail::Tail;
+use crate::tail::{TO_16, TO_48, Tail};
+
+/// The most bytes that an instruction has.
+pub const MOST_BYTES: usize = 18;
+
+/// One more than the largest number of a byte.
+const TO_8: u64 = 0x100;
 
 /// No instruction begins there, or not all of its bytes are there.
 #[derive(Clone, Copy, Debug, PartialEq, Eq)]
@@ -48,15 +54,15 @@ fn decode_words(first: u64, second: u64, third: u16, n: u8) -> Result<(Ins, u8),
         IfOk result (λ told. IsInstruction bytes told.0 told.1) }
     ensures only { TellsEach (little n (number_in first second third)) result }
 {
-    let head = Head::of((first % 0x100) as u8, (first / 0x100 % 0x100) as u8);
+    let head = Head::of((first % TO_8) as u8, (first / TO_8 % TO_8) as u8);
     let (opcode, layout) = begin(head)?;
     let length = layout.length();
     if n < length {
         return Err(EncodingFault);
     }
     let tail = Tail {
-        low: first / 0x1_0000 + second % 0x1_0000 * 0x1_0000_0000_0000,
-        high: second / 0x1_0000 + u64::from(third) * 0x1_0000_0000_0000,
+        low: first / TO_16 + second % TO_16 * TO_48,
+        high: second / TO_16 + u64::from(third) * TO_48,
     };
     let (one, other) = tail.fields(layout);
     Ok((build(opcode, head, one, other), length))
@@ -64,7 +70,7 @@ fn decode_words(first: u64, second: u64, third: u16, n: u8) -> Result<(Ins, u8),
 
 /// The eight bytes from a place on as a word, the lowest first.
 #[inline(always)]
-fn word_at(bytes: &[u8; 18], at: usize) -> u64
+fn word_at(bytes: &[u8; MOST_BYTES], at: usize) -> u64
     requires { at ≤ 10 }
     ensures { result ≡ number_of (take 8 (drop at bytes.now)) }
 {
@@ -83,7 +89,7 @@ fn word_at(bytes: &[u8; 18], at: usize) -> u64
 /// The instruction that the first n of these bytes begin with, and its length: `EncodingFault` exactly where they begin with
 /// none. It takes a bounded number of steps, and is made for bytes that were fetched.
 #[inline(always)]
-pub fn decode_fetched(bytes: &[u8; 18], n: u8) -> Result<(Ins, u8), EncodingFault>
+pub fn decode_fetched(bytes: &[u8; MOST_BYTES], n: u8) -> Result<(Ins, u8), EncodingFault>
     requires { n ≤ 18 }
     ensures found { IfOk result (λ told. IsInstruction (take n bytes.now) told.0 told.1) }
     ensures only { TellsEach (take n bytes.now) result }
@@ -93,11 +99,11 @@ pub fn decode_fetched(bytes: &[u8; 18], n: u8) -> Result<(Ins, u8), EncodingFaul
 }
 
 /// Up to 18 bytes, and zeros.
-fn padded(bytes: &[u8]) -> [u8; 18]
+fn padded(bytes: &[u8]) -> [u8; MOST_BYTES]
     requires { length bytes.now ≤ 18 }
     ensures { take (length bytes.now) result ≡ bytes.now }
 {
-    let mut all = [0; 18];
+    let mut all = [0; MOST_BYTES];
     for i in 0..bytes.len() {
         all[i] = bytes[i];
     }
@@ -110,6 +116,6 @@ pub fn decode(bytes: &[u8]) -> Result<(Ins, u8), EncodingFault>
     ensures found { IfOk result (λ told. IsInstruction bytes.now told.0 told.1) }
     ensures only { TellsEach bytes.now result }
 {
-    let (front, _) = bytes.split_at(bytes.len().min(18));
+    let (front, _) = bytes.split_at(bytes.len().min(MOST_BYTES));
     decode_fetched(&padded(front), front.len() as u8)
 }

@@ -4,7 +4,7 @@ ghost use Rattle.ebc_decode.specs.ReadingInside.{break_with, width_with, conditi
 ghost use Rattle.ebc_decode.specs.ReadingInside.{operand_with, target_with, indexed, immediate_with, built};
 
 use crate::choices::{BreakCode, Condition, Special};
-use crate::head::Head;
+use crate::head::{BIT_5, BIT_6, Head};
 use crate::ins::Ins;
 use crate::layout::{width_of_compared, width_of_immediate};
 use crate::opcode::Opcode;
@@ -90,7 +90,7 @@ fn target(head: Head, raw: u64) -> Target
 fn indexed_operand(head: Head, raw: u64) -> Operand
     ensures { result ≡ indexed head raw }
 {
-    operand(head.first, head.second.register >= 4, raw)
+    operand(head.first, head.second.register >= BIT_6, raw)
 }
 
 /// The immediate of a move.
@@ -112,7 +112,7 @@ pub(crate) fn build(opcode: Opcode, head: Head, first: u64, second: u64) -> Ins
     match opcode {
         Opcode::Break => Ins::Break(break_code(head.first.register)),
         Opcode::Jump => Ins::Jump {
-            when: condition(head.second.indirect, head.second.register >= 4),
+            when: condition(head.second.indirect, head.second.register >= BIT_6),
             relative: head.second.register % 2 == 1,
             target: target(head, first),
         },
@@ -121,7 +121,7 @@ pub(crate) fn build(opcode: Opcode, head: Head, first: u64, second: u64) -> Ins
             distance: head.byte,
         },
         Opcode::Call => Ins::Call {
-            native: head.second.register >= 2,
+            native: head.second.register >= BIT_5,
             relative: head.second.register % 2 == 1,
             target: target(head, first),
         },
@@ -180,7 +180,7 @@ pub(crate) fn build(opcode: Opcode, head: Head, first: u64, second: u64) -> Ins
             },
         },
         Opcode::MoveImmediate => Ins::MoveImmediate {
-            moved: moved_width(head.second.register % 4),
+            moved: moved_width(head.second.register % BIT_6),
             first: indexed_operand(head, first),
             immediate: immediate(head, second),
         },

@@ -5,6 +5,15 @@ ghost use Rattle.ebc_decode.specs.ReadingInside.{bytes_if, tail_number};
 use crate::layout::Layout;
 use crate::operand::FieldWidth;
 
+/// One more than the largest number of 16 bits.
+pub(crate) const TO_16: u64 = 0x1_0000;
+
+/// One more than the largest number of 32 bits.
+pub(crate) const TO_32: u64 = 0x1_0000_0000;
+
+/// One more than the largest number of 48 bits.
+pub(crate) const TO_48: u64 = 0x1_0000_0000_0000;
+
 /// The number in sixteen bytes, the lowest byte first.
 #[derive(Clone, Copy)]
 pub(crate) struct Tail {
@@ -21,8 +30,8 @@ fn field_in(word: u64, width: Option<FieldWidth>) -> u64
 {
     match width {
         None => 0,
-        Some(FieldWidth::Bits16) => word % 0x1_0000,
-        Some(FieldWidth::Bits32) => word % 0x1_0000_0000,
+        Some(FieldWidth::Bits16) => word % TO_16,
+        Some(FieldWidth::Bits32) => word % TO_32,
         Some(FieldWidth::Bits64) => word,
     }
 }
@@ -35,10 +44,8 @@ impl Tail {
     {
         match width {
             None => self.low,
-            Some(FieldWidth::Bits16) => self.low / 0x1_0000
-                + self.high % 0x1_0000 * 0x1_0000_0000_0000,
-            Some(FieldWidth::Bits32) => self.low / 0x1_0000_0000
-                + self.high % 0x1_0000_0000 * 0x1_0000_0000,
+            Some(FieldWidth::Bits16) => self.low / TO_16 + self.high % TO_16 * TO_48,
+            Some(FieldWidth::Bits32) => self.low / TO_32 + self.high % TO_32 * TO_32,
             Some(FieldWidth::Bits64) => self.high,
         }
     }

@@ -11,8 +11,16 @@ ghost use Rattle.ebc_decode.specs.Reading.{size_of};
 ghost use Rattle.ebc_decode.specs.WritingInside.{bytes_of_field, Fits, bytes_of_parts, AllFit, field_size, joined_number, field_if};
 
 use crate::choices::{BreakCode, Condition, Special, StackOp};
+use crate::head::{BIT_5, BIT_6, HIGH, REGISTERS, SEVEN, SIX};
 use crate::ins::Ins;
+use crate::opcode::{
+    BREAK, CALL, COMPARE, COMPARE_IMMEDIATE, JUMP, LOAD_FLAGS, MOVE_BY_16, MOVE_BY_32, MOVE_BY_64,
+    MOVE_IMMEDIATE, MOVE_INDEX, MOVE_NATURAL, MOVE_RELATIVE, MOVE_SIGNED, RETURN, SHORT_JUMP,
+    STACK, STACK_NATURAL, STORE_SPECIAL,
+};
 use crate::operand::{Field, FieldWidth, Operand, Place, Target, Width};
+use crate::reading::MOST_BYTES;
+use crate::tail::{TO_16, TO_32, TO_48};
 use mm_base::{AluOp, CmpOp};
 
 /// The first two bytes of an instruction, and the fields that follow.
@@ -29,7 +37,7 @@ fn first_byte(opcode: u8, six: bool, seven: bool) -> u8
     requires { opcode < 64 }
     ensures { result ≡ opcode + 64 * bit six + 128 * bit seven }
 {
-    opcode + if six { 64 } else { 0 } + if seven { 128 } else { 0 }
+    opcode + if six { SIX } else { 0 } + if seven { SEVEN } else { 0 }
 }
 
 /// Four bits that are an operand.
@@ -38,7 +46,7 @@ fn bits_of(place: Place) -> u8
     ensures bits { result ≡ place_bits place }
     ensures few { result < 16 }
 {
-    place.register + if place.indirect { 8 } else { 0 }
+    place.register + if place.indirect { REGISTERS } else { 0 }
 }
 
 fn bit_of(set: bool) -> u8
@@ -119,9 +127,9 @@ fn opcode_of_move(moved: Width, index: FieldWidth) -> u8
     ensures few { result < 64 }
 {
     match index {
-        FieldWidth::Bits16 => 0x1d + number_of_width(moved),
-        FieldWidth::Bits32 => 0x21 + number_of_width(moved),
-        FieldWidth::Bits64 => 0x28,
+        FieldWidth::Bits16 => MOVE_BY_16 + number_of_width(moved),
+        FieldWidth::Bits32 => MOVE_BY_32 + number_of_width(moved),
+        FieldWidth::Bits64 => MOVE_BY_64,
     }
 }
 
@@ -208,7 +216,7 @@ fn second_byte(low: u8, high: u8) -> u8
     requires high { high < 16 }
     ensures { result ≡ low + 16 * high }
 {
-    low + 16 * high
+    low + HIGH * high
 }
 
 /// Two bytes alone.
@@ -262,7 +270,7 @@ fn short_jump(when: Condition, distance: u8) -> Parts
     ensures fit { AllFit result }
 {
     Parts {
-        first: first_byte(0x02, carry_wanted(when), is_conditional_jump(when)),
+        first: first_byte(SHORT_JUMP, carry_wanted(when), is_conditional_jump(when)),
         second: distance,
         one: None,
         other: None,
@@ -326,7 +334,7 @@ fn with_compared(op: CmpOp, wide: bool, first: Operand, immediate: Field) -> Par
 {
     Parts {
         first: first_byte(
-            0x2d + place_of_comparison(op),
+            COMPARE_IMMEDIATE + place_of_comparison(op),
             wide,
             seven_of(immediate.width),
         ),
@@ -349,7 +357,7 @@ fn with_moved(opcode: u8, first: Operand, given: u8, immediate: Field) -> Parts
         first: first_byte(opcode, six_of(immediate.width), seven_of(immediate.width)),
         second: second_byte(
             bits_of(first.place),
-            given + 4 * bit_of(first.field.is_some()),
+            given + BIT_6 * bit_of(first.field.is_some()),
         ),
         one: field(FieldWidth::Bits16, first.field),
         other: Some(immediate),
@@ -361,7 +369,9 @@ fn jump_bits(when: Condition, relative: bool) -> u8
     ensures bits { result ≡ bit relative + 4 * bit (wanted_carry when) + 8 * bit (is_conditional when) }
     ensures few { result < 16 }
 {
-    bit_of(relative) + 4 * bit_of(carry_wanted(when)) + 8 * bit_of(is_conditional_jump(when))
+    bit_of(relative)
+        + BIT_6 * bit_of(carry_wanted(when))
+        + REGISTERS * bit_of(is_conditional_jump(when))
 }
 
 /// The parts of an instruction.
@@ -372,25 +382,25 @@ fn parts_of(ins: &Ins) -> Parts
     ensures fit { AllFit result }
 {
     match *ins {
-        Ins::Break(code) => bare(0x00, break_code(code), 0),
+        Ins::Break(code) => bare(BREAK, break_code(code), 0),
         Ins::Jump {
             when,
             relative,
             target,
-        } => to_target(0x01, target, jump_bits(when, relative)),
+        } => to_target(JUMP, target, jump_bits(when, relative)),
         Ins::ShortJump { when, distance } => short_jump(when, distance),
         Ins::Call {
             native,
             relative,
             target,
-        } => to_target(0x03, target, bit_of(relative) + 2 * bit_of(native)),
-        Ins::Return => bare(0x04, 0, 0),
+        } => to_target(CALL, target, bit_of(relative) + BIT_5 * bit_of(native)),
+        Ins::Return => bare(RETURN, 0, 0),
         Ins::Compare {
             op,
             wide,
             first,
             second,
-        } => on_two(0x05 + place_of_comparison(op), wide, first, second),
+        } => on_two(COMPARE + place_of_comparison(op), wide, first, second),
         Ins::Compute {
             op,
             wide,
@@ -407,16 +417,24 @@ fn parts_of(ins: &Ins) -> Parts
             index,
             first,
             second,
-        } => with_two_indexes(0x25 + place_of_index(index), index, first, second),
+        } => with_two_indexes(MOVE_SIGNED + place_of_index(index), index, first, second),
         Ins::MoveNatural {
             index,
             first,
             second,
-        } => with_two_indexes(0x32 + place_of_index(index), index, first, second),
-        Ins::LoadFlags { register } => bare(0x29, 0, register),
-        Ins::StoreSpecial { register, from } => bare(0x2a, register, number_of_special(from)),
-        Ins::Stack { op, wide, operand } => on_one(0x2b + place_of_stack(op), wide, operand),
-        Ins::StackNatural { op, operand } => on_one(0x35 + place_of_stack(op), false, operand),
+        } => with_two_indexes(MOVE_NATURAL + place_of_index(index), index, first, second),
+        Ins::LoadFlags { register } => bare(LOAD_FLAGS, 0, register),
+        Ins::StoreSpecial { register, from } => bare(
+            STORE_SPECIAL,
+            register,
+            number_of_special(from),
+        ),
+        Ins::Stack { op, wide, operand } => on_one(STACK + place_of_stack(op), wide, operand),
+        Ins::StackNatural { op, operand } => on_one(
+            STACK_NATURAL + place_of_stack(op),
+            false,
+            operand,
+        ),
         Ins::CompareImmediate {
             op,
             wide,
@@ -427,9 +445,9 @@ fn parts_of(ins: &Ins) -> Parts
             moved,
             first,
             immediate,
-        } => with_moved(0x37, first, number_of_width(moved), immediate),
-        Ins::MoveIndex { first, index } => with_moved(0x38, first, 0, index),
-        Ins::MoveRelative { first, immediate } => with_moved(0x39, first, 0, immediate),
+        } => with_moved(MOVE_IMMEDIATE, first, number_of_width(moved), immediate),
+        Ins::MoveIndex { first, index } => with_moved(MOVE_INDEX, first, 0, index),
+        Ins::MoveRelative { first, immediate } => with_moved(MOVE_RELATIVE, first, 0, immediate),
     }
 }
 
@@ -460,21 +478,13 @@ fn joined(one: Option<Field>, other: Option<Field>) -> (u64, u64)
                 width: FieldWidth::Bits16,
                 raw,
             },
-        ) => {
-            (
-                raw + next % 0x1_0000_0000_0000 * 0x1_0000,
-                next / 0x1_0000_0000_0000,
-            )
-        }
+        ) => { (raw + next % TO_48 * TO_16, next / TO_48) }
         Some(
             Field {
                 width: FieldWidth::Bits32,
                 raw,
             },
-        ) => (
-            raw + next % 0x1_0000_0000 * 0x1_0000_0000,
-            next / 0x1_0000_0000,
-        ),
+        ) => (raw + next % TO_32 * TO_32, next / TO_32),
         Some(
             Field {
                 width: FieldWidth::Bits64,
@@ -485,7 +495,7 @@ fn joined(one: Option<Field>, other: Option<Field>) -> (u64, u64)
 }
 
 /// Two bytes and two words, the lowest byte first.
-fn all_bytes(first: u8, second: u8, low: u64, high: u64) -> [u8; 18]
+fn all_bytes(first: u8, second: u8, low: u64, high: u64) -> [u8; MOST_BYTES]
     ensures { result ≡ first ∷ second ∷ (little 8 low ++ little 8 high) }
 {
     let l = low.to_le_bytes();
@@ -498,7 +508,7 @@ fn all_bytes(first: u8, second: u8, low: u64, high: u64) -> [u8; 18]
 
 /// The bytes of an instruction, with zeros after them, and its length, 2 to 18. It takes a bounded number of steps and no memory.
 /// The instruction must be lawful, as what `decode` answers is.
-pub fn encode(ins: &Ins) -> ([u8; 18], u8)
+pub fn encode(ins: &Ins) -> ([u8; MOST_BYTES], u8)
     requires { IsLawful ins.now }
     ensures bytes { result.0 ≡ spelling_of ins.now ++ replicate (18 - size_of ins.now) 0 }
     ensures length { result.1 ≡ size_of ins.now }

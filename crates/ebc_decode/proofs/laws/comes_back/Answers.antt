@@ -1,4 +1,4 @@
-use Rattle.std.proofs.Common.{◌≡◌, ℕ, List, [], ◌++◌, replicate, ◌-◌, take, ap, sym, ◌∙◌}
+use Rattle.std.proofs.Common.{◌≡◌, [], replicate, ◌-◌, take, sym, ◌∙◌}
 use Rattle.std.proofs.lemmas.List.{take_at, append-nil}
 use Rattle.ebc_decode.specs.Spelling.{spelling_of}
 use Rattle.ebc_decode.specs.Reading.{size_of}

@@ -1,6 +1,5 @@
-use Rattle.std.proofs.Common.{◌≡◌, ℕ, ◌+◌, ◌*◌, ◌/◌, ◌%◌, ◌^◌, ap, ◌∙◌, arith}
+use Rattle.std.proofs.Common.{ℕ, ◌+◌, ◌*◌, ◌/◌, ◌%◌, ◌^◌, ap, ◌∙◌}
 use Rattle.ebc_decode.specs.ReadingInside.{bytes_if, number_in}
-use Rattle.ebc_decode.proofs.WordLemmas.{tail_of}
 use Rattle.ebc_decode.proofs.FetchLemmas.{head_of-words, tail_of-words}
 use Rattle.ebc_decode.proofs.ToldLemmas.{Built, words_none_at, words_short_at, words_told_at, words_found_at}
 use Rattle.ebc_decode.proofs.reading.decode_words.Goals as goal

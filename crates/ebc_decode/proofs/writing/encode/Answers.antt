@@ -1,4 +1,4 @@
-use Rattle.std.proofs.Common.{ℕ, ◌+◌, ◌∙◌, arith}
+use Rattle.std.proofs.Common.{◌+◌, ◌∙◌, arith}
 use Rattle.ebc_decode.specs.Spelling.{spelling_of}
 use Rattle.ebc_decode.proofs.WriteLemmas.{written, written_length}
 use Rattle.ebc_decode.proofs.writing.encode.Goals as goal
