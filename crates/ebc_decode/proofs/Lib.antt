@@ -1,0 +1,12 @@
+pub mod ByteLemmas
+pub mod RowLemmas
+pub mod HeadLemmas
+pub mod SoundLemmas
+pub mod FormLemmas
+pub mod TableLemmas
+pub mod ReadLemmas
+pub mod WordLemmas
+pub mod LawLemmas
+pub mod ToldLemmas
+pub mod FetchLemmas
+pub mod WriteLemmas

@@ -1,0 +1,7 @@
+pub mod Bytes
+pub mod Spelling
+pub mod Lawful
+pub mod Reading
+pub mod Laws
+pub mod ReadingInside
+pub mod WritingInside

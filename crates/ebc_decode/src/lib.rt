@@ -1,0 +1,27 @@
+//! Needs `mm_base` alone.
+//! EFI Byte Code as it is spelled: `decode` takes exactly the bytes that begin with an instruction's one spelling, and `encode`
+//! gives that spelling.
+//! It never touches registers, memory or a bus, and takes no memory.
+#![tactic(auto)]
+
+mod choices;
+mod head;
+mod ins;
+pub mod laws;
+mod layout;
+mod opcode;
+mod operand;
+mod reading;
+mod rows;
+#[cfg(test)]
+mod samples;
+mod tail;
+#[cfg(test)]
+mod tests;
+mod writing;
+
+pub use choices::{BreakCode, Condition, Special, StackOp};
+pub use ins::Ins;
+pub use operand::{Field, FieldWidth, Operand, Place, Target, Width};
+pub use reading::{EncodingFault, MOST_BYTES, decode, decode_fetched, length};
+pub use writing::encode;
