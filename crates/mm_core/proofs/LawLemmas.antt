@@ -11,7 +11,7 @@ use Rattle.mm_base.specs.declared.handler.Handler.{Handler}
 use Rattle.mm_base.specs.declared.invocation.Invocation.{Invocation}
 use Rattle.mm_base.specs.declared.entry.Request.{Request}
 use Rattle.mm_base.specs.declared.entry.Shape.{Shape}
-use Rattle.mm_base.specs.declared.entry.Shape.TheVariants.{BadLength, BadHeader, NoHandler, Dispatched}
+use Rattle.mm_base.specs.declared.entry.Shape.TheVariants.{Dispatched}
 use Rattle.mmi_registry.specs.ChainRule.{stops}
 use Rattle.mmi_registry.specs.Handlers.{chain_of}
 use Rattle.mm_core.specs.CommunicateHeader.{header_length, is_lawful, header_of}

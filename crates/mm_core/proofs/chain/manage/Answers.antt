@@ -1,5 +1,5 @@
 use Rattle.std.proofs.Common.{◌+◌, ◌∙◌, sym, ap, vec_len, arith}
-use Rattle.mm_core.proofs.ChainRunLemmas.{Start, Held, Managed, at_start, at_end, root_is, goes_on, ends, goes_past, has_place}
+use Rattle.mm_core.proofs.ChainRunLemmas.{Held, Managed, at_start, at_end, root_is, goes_on, ends, goes_past, has_place}
 use Rattle.mm_core.proofs.chain.manage.Goals as goal
 use Rattle.mm_core.proofs.chain.manage.Goals.{then-eq+else-stopped, else-eq}
 

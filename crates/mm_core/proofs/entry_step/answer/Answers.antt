@@ -1,4 +1,4 @@
-use Rattle.std.proofs.Common.{◌≡◌, ◌∙◌, refl, sym, ap, length, true, inl, inr, arith}
+use Rattle.std.proofs.Common.{◌≡◌, ◌∙◌, sym, ap, length, true, inl, inr, arith}
 use Rattle.mm_base.specs.declared.entry.Shape.{Shape}
 use Rattle.mm_core.specs.HandlerChain.{invocations_of}
 use Rattle.mm_core.specs.MachineLemmas.{is_addressed}
