@@ -26,9 +26,11 @@ All-swap_fields xs small =
     (at 3, (at 2, (at 1, (at 0, (at 5, (at 4, (at 7, (at 6, (at 8, (at 9, (at 10, (at 11, (at 12, (at 13, (at 14, (at 15, tt))))))))))))))))
 
 -- a GUID is read back from its text
-pub guid_from_text-guid_text : (guid : Guid) → length guid.0 ≡ 16 → All (λ byte. byte < 256) guid.0 → guid_from_text (guid_text guid) ≡ Some guid
+pub guid_from_text-guid_text : (guid : Guid) → length guid.0 ≡ 16 → All (λ byte. byte < 256) guid.0
+    → guid_from_text (guid_text guid) ≡ Some guid
 guid_from_text-guid_text guid long small =
     let written : List ℕ = swap_fields guid.0 in
     let read = parses_hyphenated lower written (inl refl) refl (All-swap_fields guid.0 small) in
     let whole : List ℕ → Guid = λ bytes. record { 0 = bytes } in
-    ap (option_map (λ (bytes : List ℕ). whole (swap_fields bytes))) (sym read) ∙ ap (λ (bytes : List ℕ). Some (whole bytes)) (swap_twice guid.0 long)
+    ap (option_map (λ (bytes : List ℕ). whole (swap_fields bytes))) (sym read)
+    ∙ ap (λ (bytes : List ℕ). Some (whole bytes)) (swap_twice guid.0 long)

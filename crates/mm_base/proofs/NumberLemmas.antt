@@ -1,5 +1,6 @@
 -- Numbers and words in bytes.
-use Rattle.std.proofs.Common.{◌≡◌, ℕ, zero, suc, ◌+◌, ◌-◌, ◌*◌, ◌≤◌, ◌<◌, ◌^◌, List, [], ◌∷◌, ◌++◌, length, take, drop, replicate, get_or, All, refl, sym, ap, ◌∙◌, subst, append_assoc, arith, lit<, length-append}
+use Rattle.std.proofs.Common.{◌≡◌, ℕ, zero, suc, ◌+◌, ◌-◌, ◌*◌, ◌≤◌, ◌<◌, ◌^◌, List, [], ◌∷◌, ◌++◌, length, take, drop}
+use Rattle.std.proofs.Common.{replicate, get_or, All, refl, sym, ap, ◌∙◌, subst, append_assoc, arith, lit<, length-append}
 use Rattle.std.proofs.Math.Seq.{drop-cons}
 use Rattle.std.proofs.lemmas.List.{length-replicate, take_all, take_at, nil_from_length}
 use Rattle.std.proofs.lemmas.List.Elements.{All-head, All-tail, All-append, All-replicate, All-take, All-drop}
@@ -68,7 +69,8 @@ bytes_of_word-filled bytes short small =
     let zeros : List ℕ = replicate (8 - length bytes) 0 in
     let long : length (bytes ++ zeros) ≡ 8 = omega (arith, length-append bytes zeros, length-replicate {A = ℕ} (8 - length bytes) 0) in
     ap bytes_of_word (sym (number_of-filled bytes (8 - length bytes)))
-    ∙ bytes_of_word-number_of (bytes ++ zeros) long (All-append (λ byte. byte < 256) bytes zeros small (All-replicate (λ byte. byte < 256) (8 - length bytes) 0 (lit< tt)))
+    ∙ bytes_of_word-number_of (bytes ++ zeros) long
+    (All-append (λ byte. byte < 256) bytes zeros small (All-replicate (λ byte. byte < 256) (8 - length bytes) 0 (lit< tt)))
 
 -- ---- many words
 
@@ -90,7 +92,8 @@ length-first_words (suc n) bytes = ap suc (length-first_words n (drop 8 bytes))
 pub length-words_of_bytes : (bytes : List ℕ) → length (words_of_bytes bytes) ≡ words_for (length bytes)
 length-words_of_bytes bytes = length-first_words (words_for (length bytes)) bytes
 
-first_words-bytes_of_words : (words : List ℕ) → All (λ word. word < 2 ^ 64) words → first_words (length words) (bytes_of_words words) ≡ words
+first_words-bytes_of_words : (words : List ℕ) → All (λ word. word < 2 ^ 64) words
+    → first_words (length words) (bytes_of_words words) ≡ words
 first_words-bytes_of_words [] fit = refl
 first_words-bytes_of_words (word ∷ words) fit =
     let here = number_of-bytes_of_word word (All-head (λ word. word < 2 ^ 64) word words fit) in
@@ -121,7 +124,8 @@ front_of_words (suc n) (a ∷ b ∷ c ∷ d ∷ e ∷ f ∷ g ∷ h ∷ rest) en
     let front : List ℕ = a ∷ b ∷ c ∷ d ∷ e ∷ f ∷ g ∷ h ∷ [] in
     let here = bytes_of_word-number_of front refl (All-take (λ byte. byte < 256) 8 (front ++ rest) small) in
     let there = front_of_words n rest (omega arith) (All-drop (λ byte. byte < 256) 8 (front ++ rest) small) in
-    ap (λ (word : List ℕ). take (length (front ++ rest)) (word ++ bytes_of_words (first_words n rest))) here ∙ ap (λ (bytes : List ℕ). front ++ bytes) there
+    ap (λ (word : List ℕ). take (length (front ++ rest)) (word ++ bytes_of_words (first_words n rest))) here
+    ∙ ap (λ (bytes : List ℕ). front ++ bytes) there
 front_of_words (suc n) bytes enough small =
     let all : take 8 bytes ≡ bytes = take_all 8 bytes (omega arith) in
     front_of_word bytes (bytes_of_words (first_words n (drop 8 bytes))) (omega arith) small

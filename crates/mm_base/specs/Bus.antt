@@ -1,13 +1,13 @@
--- What a bus answers and leaves. These are functions of the bus's value and of a call's arguments, so that what byte code
--- does over a bus is a function too.
+-- What a bus answers and leaves. These are functions of the bus's value and of a call's arguments, so that what byte
+-- code does over a bus is a function too.
 use Rattle.std.specs.Prelude.{◌≡◌, ◌⊎◌, ℕ, List, Result}
 use Rattle.mm_base.specs.declared.access.Denial.{Denial}
 use Rattle.mm_base.specs.declared.bus.Served.{Served}
 use Rattle.mm_base.specs.declared.bus.Served.TheVariants.{Status, Stop, NoMemory}
 use Rattle.mm_base.specs.declared.bus.Target.{Target}
 
--- What the calls of a bus answer and leave: a fetch, a read and a write of n bytes at an address; the question what stands at
--- an address, which changes nothing; and a service, by its number and the address of its arguments.
+-- What the calls of a bus answer and leave: a fetch, a read and a write of n bytes at an address; the question what
+-- stands at an address, which changes nothing; and a service, by its number and the address of its arguments.
 pub record Meaning (B : Type 0) : Type 0 where
   pub fetches : B → ℕ → ℕ → Result (List ℕ) Denial × B
   pub reads : B → ℕ → ℕ → Result ℕ Denial × B

@@ -1,4 +1,5 @@
--- The cells of the platform, by this project's own map: ports and device bytes hold 8 bits, model-specific registers 64.
+-- The cells of the platform, by this project's own map: ports and device bytes hold 8 bits, model-specific registers
+-- 64.
 use Rattle.std.specs.Prelude.{◌≡◌, ℕ, Bool, true, false, ◌&&◌, ◌||◌, nat_le, nat_lt, List}
 use Rattle.std.specs.List.{All}
 use Rattle.mm_base.specs.declared.access.Kind.{Kind}

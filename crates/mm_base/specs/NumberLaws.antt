@@ -9,4 +9,6 @@ WordsComeBack = (words : List ℕ) → All (λ word. word < 2 ^ 64) words → wo
 -- bytes are the front of the bytes of their words, the last of which is filled with zeros
 abbrev pub BytesComeBack : Type 0
 BytesComeBack =
-    (bytes : List ℕ) → All (λ byte. byte < 256) bytes → take (length bytes) (bytes_of_words (words_of_bytes bytes)) ≡ bytes
+    (bytes : List ℕ)
+    → All (λ byte. byte < 256) bytes
+    → take (length bytes) (bytes_of_words (words_of_bytes bytes)) ≡ bytes

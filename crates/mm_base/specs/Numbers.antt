@@ -1,5 +1,6 @@
 -- Numbers as bytes, the lowest byte first, and bytes as words of 64 bits.
-use Rattle.std.specs.Prelude.{ℕ, zero, suc, ◌+◌, ◌*◌, ◌/◌, Bool, ◌==◌, not, bit_and, List, [], ◌∷◌, ◌++◌, take, drop, length}
+use Rattle.std.specs.Prelude.{ℕ, zero, suc, ◌+◌, ◌*◌, ◌/◌, Bool, ◌==◌, not, bit_and, List, [], ◌∷◌, ◌++◌, take, drop}
+use Rattle.std.specs.Prelude.{length}
 use Rattle.std.specs.Int.{to_le_bytes, w64}
 
 -- the number that bytes spell, the lowest byte first

@@ -7,4 +7,9 @@ use Rattle.mm_base.specs.Entry.{was_dispatched}
 -- the receipt of the outcome at this position
 abbrev pub receipt_of : ℕ → Outcome → Receipt
 receipt_of position outcome =
-    record { position = position; dispatched = was_dispatched outcome.shape; status = outcome.status; bytes = outcome.reply }
+    record {
+      position = position;
+      dispatched = was_dispatched outcome.shape;
+      status = outcome.status;
+      bytes = outcome.reply;
+    }

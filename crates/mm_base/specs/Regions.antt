@@ -1,5 +1,6 @@
--- The region of an image in memory, which is this project's own: the pages that its bytes fill, and behind them 38 more. In
--- order: 4 of the stack, one of the communicate buffer, one of the services, 16 of the pool, and 16 that it may allocate.
+-- The region of an image in memory, which is this project's own: the pages that its bytes fill, and after them 38 more.
+-- In order: 4 of the stack, one of the communicate buffer, one of the services, 16 of the pool, and 16 that it may
+-- allocate.
 use Rattle.std.specs.Prelude.{ℕ, ◌+◌, ◌*◌, ◌/◌, ◌≤◌, ◌^◌}
 use Rattle.mm_base.specs.declared.range.Range.{Range}
 use Rattle.mm_base.specs.declared.region.Region.{Region}

@@ -10,4 +10,9 @@ pub record RoomState (T : Type 0) : Type 0 where
 -- a room is stored as the pair of its fields
 abbrev pub room_code : {T : Type 0} → Coded T → Coded (RoomState T)
 room_code {T} c =
-    code_by (List T × ℕ) (coded× (coded_list c) coded_ℕ) (λ r. (r.items, r.room)) (λ p. record { items = p.0; room = p.1 }) (λ _. refl)
+    code_by
+    (List T × ℕ)
+    (coded× (coded_list c) coded_ℕ)
+    (λ r. (r.items, r.room))
+    (λ p. record { items = p.0; room = p.1 })
+    (λ _. refl)

@@ -1,5 +1,5 @@
-//! Floor: the ground, under all crates. It promises plain types that mean what their documents say, rooms that are filled without
-//! taking memory, and what machines, buses, pages and homes are. It never reads a file, prints, or starts a thread.
+//! Floor: ground. It promises plain types that mean what their documents say, rooms that are filled without taking memory, and
+//! what machines, buses, pages and homes are. It never reads a file, prints, or starts a thread.
 #![tactic(auto)]
 
 mod access;

@@ -154,7 +154,9 @@ impl Prepared {
 
     /// Records what came of the request.
     pub fn finish(&mut self, outcome: Outcome)
-        ensures { self.new ≡ record self.old { entry = record { request = self.old.entry.request; outcome = outcome } } }
+        ensures { self.new ≡ record self.old {
+          entry = record { request = self.old.entry.request; outcome = outcome };
+        } }
     {
         self.entry.outcome = outcome;
     }

@@ -62,7 +62,10 @@ impl<T> Room<T> {
 
     /// Sees to it that there is place for `more` items more.
     pub fn reserve(&mut self, more: usize) -> Result<(), NoMemory>
-        ensures ok { OnOk result (self.new ≡ record { items = self.old.items; room = max self.old.room (length self.old.items + more) }) }
+        ensures ok { OnOk result (self.new ≡ record {
+          items = self.old.items;
+          room = max self.old.room (length self.old.items + more);
+        }) }
         ensures err { OnErr result (self.new ≡ self.old) }
     {
         self.items.reserve(more)?;
