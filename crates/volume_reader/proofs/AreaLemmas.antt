@@ -7,7 +7,7 @@ use Rattle.std.proofs.lemmas.Bool.Decides.{nat_tests}
 use Rattle.volume_reader.specs.FileHeader.{Area, has_room, state_at}
 use Rattle.volume_reader.specs.declared.file_state.FileState.TheVariants.{DataValid, MarkedForUpdate}
 use Rattle.volume_reader.specs.VolumeGrammar.{Counts}
-use Rattle.volume_reader.specs.Finding.{Finds, FindsFile, listed}
+use Rattle.volume_reader.specs.FindingInside.{Finds, FindsFile, listed}
 use Rattle.volume_reader.specs.declared.area.Found.{Found}
 use Rattle.volume_reader.specs.declared.area.Found.TheVariants.{End, Refused, Behind}
 

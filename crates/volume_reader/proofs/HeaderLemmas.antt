@@ -7,7 +7,7 @@ use Rattle.mm_base.specs.declared.volume.VolumeKind.{VolumeKind}
 use Rattle.mm_base.specs.declared.volume.VolumeKind.TheVariants.{Short}
 use Rattle.volume_reader.specs.VolumeHeader.{checks, first_failing, header_length, volume_length, ext_header, ext_size, ext_header_fits, first_place, up_to_8}
 use Rattle.volume_reader.specs.VolumeGrammar.{HasBadHeader}
-use Rattle.volume_reader.specs.declared.reading.VolumeFault.{VolumeFault}
+use Rattle.volume_reader.specs.declared.volume_fault.VolumeFault.{VolumeFault}
 
 -- the check at a place
 abbrev pub check_at : List ℕ → ℕ → Check VolumeKind

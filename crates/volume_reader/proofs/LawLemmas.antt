@@ -8,13 +8,14 @@ use Rattle.mm_base.specs.declared.volume.VolumeKind.{VolumeKind}
 use Rattle.mm_base.specs.declared.volume.VolumeKind.TheVariants.{FileSum, FileSize}
 use Rattle.volume_reader.specs.declared.file_state.FileState.{FileState}
 use Rattle.volume_reader.specs.declared.file_state.FileState.TheVariants.{Free, HeaderConstruction, HeaderValid, DataValid, MarkedForUpdate, Deleted, HeaderInvalid}
-use Rattle.volume_reader.specs.declared.reading.VolumeFault.{VolumeFault}
-use Rattle.volume_reader.specs.declared.reading.VolumeEnd.{VolumeEnd}
-use Rattle.volume_reader.specs.declared.reading.VolumeEnd.TheVariants.{Fault, NoMemory}
+use Rattle.mm_base.specs.End.{EndsBy, out_of_memory}
+use Rattle.mm_base.specs.declared.end.End.{End}
+use Rattle.mm_base.specs.declared.end.End.TheVariants.{Fault, NoMemory}
+use Rattle.volume_reader.specs.declared.volume_fault.VolumeFault.{VolumeFault}
 use Rattle.volume_reader.specs.VolumeHeader.{first_failing, first_place, volume_length, is_ffs3, erase_polarity}
 use Rattle.volume_reader.specs.FileHeader.{Area, has_room, state_at, is_large, says_large, header_sum_is_zero, size_fits}
 use Rattle.volume_reader.specs.VolumeGrammar.{area_of, Span, HeaderAlone, Gone, Counts, EndsAt, HasHeader, StandsAt, Leads, place_behind, files_in, IsWritten, IsBadAt, IsRefusedAt, IsVolume, HasFault}
-use Rattle.volume_reader.specs.Finding.{EndsBy, AreFiles}
+use Rattle.volume_reader.specs.FindingInside.{AreFiles}
 use Rattle.volume_reader.proofs.WalkLemmas.{moves_on}
 
 -- ---- one thing at each place
@@ -156,17 +157,17 @@ one_fault bytes one other (inr a) (inr b) =
     λ i. record { at = same.ends i; kind = kinds i }
 
 -- what a reader answers is the volume, or the fault, that the bytes are
-pub told_found : (bytes : List ℕ) (result : Result Volume VolumeEnd) → IfOk result (IsVolume bytes) → IfErr result (EndsBy (HasFault bytes))
-    → (volume : Volume) → IsVolume bytes volume → (result ≡ Ok volume) ⊎ (result ≡ Err NoMemory)
+pub told_found : (bytes : List ℕ) (result : Result Volume (End VolumeFault)) → IfOk result (IsVolume bytes) → IfErr result (EndsBy (HasFault bytes))
+    → (volume : Volume) → IsVolume bytes volume → (result ≡ Ok volume) ⊎ (result ≡ Err (NoMemory out_of_memory))
 told_found bytes (Ok other) ok err volume is = inl (ap Ok (one_volume bytes other volume ok is))
 told_found bytes (Err (Fault fault)) ok err volume is = absurd (never_both bytes volume fault is err)
-told_found bytes (Err NoMemory) ok err volume is = inr refl
+told_found bytes (Err (NoMemory refused)) ok err volume is = inr refl
 
-pub told_first : (bytes : List ℕ) (result : Result Volume VolumeEnd) → IfOk result (IsVolume bytes) → IfErr result (EndsBy (HasFault bytes))
-    → (fault : VolumeFault) → HasFault bytes fault → (result ≡ Err (Fault fault)) ⊎ (result ≡ Err NoMemory)
+pub told_first : (bytes : List ℕ) (result : Result Volume (End VolumeFault)) → IfOk result (IsVolume bytes) → IfErr result (EndsBy (HasFault bytes))
+    → (fault : VolumeFault) → HasFault bytes fault → (result ≡ Err (Fault fault)) ⊎ (result ≡ Err (NoMemory out_of_memory))
 told_first bytes (Ok volume) ok err fault is = absurd (never_both bytes volume fault ok is)
 told_first bytes (Err (Fault other)) ok err fault is = inl (ap (λ f. Err (Fault f)) (one_fault bytes other fault err is))
-told_first bytes (Err NoMemory) ok err fault is = inr refl
+told_first bytes (Err (NoMemory refused)) ok err fault is = inr refl
 
 -- ---- what a header tells, and the files behind it, are a volume
 

@@ -6,7 +6,7 @@ use Rattle.mm_base.specs.declared.volume.File.{File}
 use Rattle.volume_reader.specs.VolumeHeader.{up_to_8}
 use Rattle.volume_reader.specs.FileHeader.{Area, size_at}
 use Rattle.volume_reader.specs.VolumeGrammar.{Span, HeaderAlone, Gone, Counts, StandsAt, Leads, place_behind, files_of, files_in, HasHeader}
-use Rattle.volume_reader.specs.Finding.{FindsSpan, listed}
+use Rattle.volume_reader.specs.FindingInside.{FindsSpan, listed}
 
 -- one more span behind others
 pub leads-more : (area : Area) (at : ℕ) (spans : List Span) (to : ℕ) (span : Span) → Leads area at spans to → StandsAt area to span

@@ -1,6 +1,6 @@
 pub mod Contents
 pub mod FileHeader
-pub mod Finding
+pub mod FindingInside
 pub mod SectionLaws
 pub mod Sections
 pub mod Sums

@@ -8,7 +8,7 @@ use Rattle.mm_base.specs.declared.volume.VolumeKind.TheVariants.{FileSum, FileSi
 use Rattle.volume_reader.specs.VolumeHeader.{volume_length, is_ffs3, first_failing, first_place, erase_polarity, up_to_8}
 use Rattle.volume_reader.specs.FileHeader.{Area, state_at, says_large, is_large, size_at, has_room, header_sum_is_zero, size_fits, file_at}
 use Rattle.volume_reader.specs.declared.file_state.FileState.TheVariants.{Free, HeaderConstruction, HeaderValid, DataValid, MarkedForUpdate, Deleted, HeaderInvalid}
-use Rattle.volume_reader.specs.declared.reading.VolumeFault.{VolumeFault}
+use Rattle.volume_reader.specs.declared.volume_fault.VolumeFault.{VolumeFault}
 
 -- what files are read in, for these bytes of a volume
 abbrev pub area_of : List ℕ → Area

@@ -3,7 +3,7 @@ use Rattle.std.specs.Prelude.{◌≡◌, ◌≤◌, ℕ, ◌+◌, ◌⊎◌, Lis
 use Rattle.mm_base.specs.declared.volume.Volume.{Volume}
 use Rattle.volume_reader.specs.VolumeHeader.{volume_length}
 use Rattle.volume_reader.specs.VolumeGrammar.{IsVolume, HasFault}
-use Rattle.volume_reader.specs.declared.reading.VolumeFault.{VolumeFault}
+use Rattle.volume_reader.specs.declared.volume_fault.VolumeFault.{VolumeFault}
 
 -- bytes are a volume or have a fault
 abbrev pub VolumeOrFault : Type 0

@@ -2,7 +2,7 @@
 ghost use Rattle.std.specs.Prelude.{◌≡◌, ◌+◌, ◌≤◌, length, true, MatchOption};
 ghost use Rattle.volume_reader.specs.FileHeader.{has_room as has_room_for, state_at as state_told, says_large as is_said_large, is_large as is_a_large, header_size as header_size_of, size_at as size_told, header_sum_is_zero, size_fits as fits_in, is_sound as is_a_sound, file_at as file_told};
 ghost use Rattle.volume_reader.specs.VolumeGrammar.{HasHeader, IsBadAt};
-ghost use Rattle.volume_reader.specs.Finding.{Finds, FindsFile};
+ghost use Rattle.volume_reader.specs.FindingInside.{Finds, FindsFile};
 
 use crate::bytes::{byte_at, sum_of_bytes, up_to_8};
 use crate::file_state::FileState;

@@ -6,8 +6,8 @@ ghost use Rattle.volume_reader.specs.Sums.{sum_in_16_bits as words_summed};
 ghost use Rattle.volume_reader.specs.VolumeGrammar.{HasBadHeader};
 
 use crate::bytes::{byte_at, sum_of_words, up_to_8};
-use crate::reading::VolumeFault;
-use mm_base::{VolumeKind, number_at, stands_at};
+use crate::volume_fault::{VolumeFault, fault};
+use mm_base::{VolumeKind, check, number_at, stands_at};
 
 /// How many bytes an EFI_FIRMWARE_VOLUME_HEADER has in front of what may stand in its block map.
 const FIXED_BYTES: usize = 64;
@@ -155,29 +155,24 @@ pub(crate) fn first_place(bytes: &[u8]) -> usize
     up_to_8(behind_header(bytes))
 }
 
-/// Passes one check, or says what fails it.
-fn check(passes: bool, at: u32, kind: VolumeKind) -> Result<(), VolumeFault>
-    ensures ok { OnOk result (passes ≡ true) }
-    ensures fault { IfErr result (λ fault. (passes ≡ false) × (fault ≡ record { at = at; kind = kind })) }
-{
-    if passes {
-        return Ok(());
-    }
-    Err(VolumeFault { at, kind })
-}
-
 /// Checks a volume header, in order; the first check that fails is the fault.
 pub(crate) fn check_header(bytes: &[u8]) -> Result<(), VolumeFault>
     requires { length bytes.now ≤ 16777216 }
     ensures ok { OnOk result (first_failing bytes.now ≡ None) }
     ensures fault { IfErr result (HasBadHeader bytes.now) }
 {
-    check(FIXED_BYTES <= bytes.len(), 0, VolumeKind::Short)?;
-    check(has_signature(bytes), 40, VolumeKind::Signature)?;
-    check(header_length_fits(bytes), 48, VolumeKind::HeaderLength)?;
-    check(header_sums_up(bytes), 50, VolumeKind::HeaderSum)?;
-    check(byte_at(bytes, 55) == REVISION, 55, VolumeKind::Revision)?;
-    check(has_known_system(bytes), 16, VolumeKind::FileSystem)?;
-    check(volume_length_fits(bytes), 32, VolumeKind::Length)?;
-    check(ext_header_fits(bytes), 52, VolumeKind::ExtHeader)
+    check(FIXED_BYTES <= bytes.len(), fault(0, VolumeKind::Short))?;
+    check(has_signature(bytes), fault(40, VolumeKind::Signature))?;
+    check(
+        header_length_fits(bytes),
+        fault(48, VolumeKind::HeaderLength),
+    )?;
+    check(header_sums_up(bytes), fault(50, VolumeKind::HeaderSum))?;
+    check(
+        byte_at(bytes, 55) == REVISION,
+        fault(55, VolumeKind::Revision),
+    )?;
+    check(has_known_system(bytes), fault(16, VolumeKind::FileSystem))?;
+    check(volume_length_fits(bytes), fault(32, VolumeKind::Length))?;
+    check(ext_header_fits(bytes), fault(52, VolumeKind::ExtHeader))
 }

@@ -1,4 +1,5 @@
-//! Firmware volumes: the files of a volume, the sections of a file, and what these tell together.
+//! Floor: readers. It promises of any bytes the files of the firmware volume that they begin with, the sections of a file and what
+//! these tell together, or the first fault. It never reads past the volume's end, and takes no memory but for the list of files.
 #![tactic(auto)]
 
 mod area;
@@ -15,12 +16,14 @@ mod section_of_file;
 #[cfg(test)]
 mod section_tests;
 mod section_walk;
+mod volume_fault;
 #[cfg(test)]
 mod volume_tests;
 
 pub use contents_of_file::contents;
 pub use mm_base::{File, Section, SectionFault, Volume, VolumeKind};
-pub use reading::{VolumeEnd, VolumeFault, read_volume};
+pub use reading::read_volume;
 pub use section_contents::Contents;
 pub use section_of_file::sections;
 pub use section_walk::Sections;
+pub use volume_fault::{VolumeEnd, VolumeFault};

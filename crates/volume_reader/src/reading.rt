@@ -1,47 +1,17 @@
 //! How a volume is read.
 ghost use Rattle.std.specs.Prelude.{◌≡◌, ◌⊎◌, ◌+◌, ◌≤◌, length, Ok, Err, IfOk, IfErr};
 ghost use Rattle.mm_base.specs.declared.volume.Volume.{Volume as VolumeValue};
-ghost use Rattle.volume_reader.specs.declared.reading.VolumeEnd.TheVariants.{Fault as FaultOf, NoMemory as OutOfMemory};
-ghost use Rattle.volume_reader.specs.declared.reading.VolumeFault.{VolumeFault as VolumeFaultValue};
+ghost use Rattle.mm_base.specs.End.{EndsBy, out_of_memory};
+ghost use Rattle.mm_base.specs.declared.end.End.TheVariants.{Fault as FaultOf, NoMemory as OutOfMemory};
+ghost use Rattle.volume_reader.specs.declared.volume_fault.VolumeFault.{VolumeFault as VolumeFaultValue};
 ghost use Rattle.volume_reader.specs.VolumeGrammar.{IsVolume, HasFault};
-ghost use Rattle.volume_reader.specs.Finding.{AreFiles, EndsBy, HasFaultFrom};
+ghost use Rattle.volume_reader.specs.FindingInside.{AreFiles, HasFaultFrom};
 
 use crate::area::{Area, Found};
 use crate::header::{check_header, erase_polarity, first_place, is_ffs3, volume_length};
-use mm_base::{File, List, NoMemory, Volume, VolumeKind};
+use crate::volume_fault::{VolumeEnd, VolumeFault};
+use mm_base::{End, File, List, Volume};
 use std::alloc::Global;
-
-/// The first fault of bytes that are no volume, and its place in them.
-#[derive(Clone, Copy, Debug, PartialEq, Eq)]
-pub struct VolumeFault {
-    pub at: u32,
-    pub kind: VolumeKind,
-}
-
-/// Why bytes were not read as a volume.
-#[derive(Clone, Copy, Debug, PartialEq, Eq)]
-pub enum VolumeEnd {
-    /// They are no volume.
-    Fault(VolumeFault),
-    /// Memory was refused.
-    NoMemory,
-}
-
-impl From<VolumeFault> for VolumeEnd {
-    ghost from_gives = { λ fault end. end ≡ FaultOf fault };
-
-    fn from(fault: VolumeFault) -> Self {
-        VolumeEnd::Fault(fault)
-    }
-}
-
-impl From<NoMemory> for VolumeEnd {
-    ghost from_gives = { λ _ end. end ≡ OutOfMemory };
-
-    fn from(_: NoMemory) -> Self {
-        VolumeEnd::NoMemory
-    }
-}
 
 /// The files from a place on, up to where files end; linear in the bytes behind it.
 fn read_files(alloc: Global, area: &Area, first: usize) -> Result<List<File>, VolumeEnd>
@@ -56,7 +26,7 @@ fn read_files(alloc: Global, area: &Area, first: usize) -> Result<List<File>, Vo
         match area.find(at) {
             Found::End => return Ok(files),
             Found::Refused(kind) => {
-                return Err(VolumeEnd::Fault(VolumeFault {
+                return Err(End::Fault(VolumeFault {
                     at: at as u32,
                     kind,
                 }));
@@ -78,9 +48,9 @@ pub fn read_volume(alloc: Global, bytes: &[u8]) -> Result<Volume, VolumeEnd>
     ensures volume { IfOk result (IsVolume bytes.now) }
     ensures fault { IfErr result (EndsBy (HasFault bytes.now)) }
     ensures found { (volume : VolumeValue) → IsVolume bytes.now volume
-        → (result ≡ Ok volume) ⊎ (result ≡ Err OutOfMemory) }
+        → (result ≡ Ok volume) ⊎ (result ≡ Err (OutOfMemory out_of_memory)) }
     ensures first { (fault : VolumeFaultValue) → HasFault bytes.now fault
-        → (result ≡ Err (FaultOf fault)) ⊎ (result ≡ Err OutOfMemory) }
+        → (result ≡ Err (FaultOf fault)) ⊎ (result ≡ Err (OutOfMemory out_of_memory)) }
 {
     check_header(bytes)?;
     let (inside, _) = bytes.split_at(volume_length(bytes));

@@ -1,6 +1,7 @@
 //! Volumes that are read and refused. What is expected was worked out from the rules of volumes, apart from this reader.
 use crate::{File, Volume, VolumeEnd, VolumeKind, read_volume};
-use std::alloc::{AllocError, Global};
+use mm_base::{End, NoMemory};
+use std::alloc::Global;
 
 /// The most bytes that the reader takes.
 const MOST_BYTES: usize = 16_777_216;
@@ -602,7 +603,7 @@ fn write(bytes: &mut [u8], piece: &Piece) {
 }
 
 /// The bytes of a case.
-fn made(alloc: Global, case: &Case) -> Result<Vec<u8>, AllocError> {
+fn made(alloc: Global, case: &Case) -> Result<Vec<u8>, NoMemory> {
     let mut bytes = Vec::new(alloc);
     for _ in 0..case.length {
         bytes.push(0)?;
@@ -616,12 +617,12 @@ fn made(alloc: Global, case: &Case) -> Result<Vec<u8>, AllocError> {
     Ok(bytes)
 }
 
-/// What is read of bytes that aren't too many.
-fn read(alloc: Global, bytes: &[u8]) -> Result<Volume, VolumeEnd> {
+/// What is read of bytes, unless they are too many.
+fn read(alloc: Global, bytes: &[u8]) -> Option<Result<Volume, VolumeEnd>> {
     if bytes.len() > MOST_BYTES {
-        return Err(VolumeEnd::NoMemory);
+        return None;
     }
-    read_volume(alloc, bytes)
+    Some(read_volume(alloc, bytes))
 }
 
 fn is_row(file: &File, row: &Row) -> bool {
@@ -645,8 +646,8 @@ fn is_right(alloc: Global, case: &Case) -> bool {
         return false;
     };
     match (read(alloc, bytes.as_slice()), &case.files) {
-        (Ok(volume), Ok(rows)) => has_rows(&volume, rows),
-        (Err(VolumeEnd::Fault(fault)), Err((at, kind))) => fault.at == *at && fault.kind == *kind,
+        (Some(Ok(volume)), Ok(rows)) => has_rows(&volume, rows),
+        (Some(Err(End::Fault(fault))), Err((at, kind))) => fault.at == *at && fault.kind == *kind,
         _ => false,
     }
 }

@@ -1,7 +1,7 @@
 use Rattle.std.proofs.Common.{List, Option, sym, subst}
 use Rattle.std.proofs.lemmas.List.{append-nil}
 use Rattle.mm_base.specs.declared.volume.File.{File}
-use Rattle.volume_reader.specs.Finding.{FindsSpan}
+use Rattle.volume_reader.specs.FindingInside.{FindsSpan}
 use Rattle.volume_reader.proofs.WalkLemmas.{Walked, walked_more, next_moves}
 use Rattle.volume_reader.proofs.reading.read_files.Goals as goal
 

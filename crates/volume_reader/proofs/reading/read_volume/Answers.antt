@@ -1,6 +1,6 @@
 use Rattle.std.proofs.Common.{ℕ, IfOk, IfErr, Ok, ap, ◌∙◌, length, take, arith, rules}
 use Rattle.volume_reader.specs.VolumeGrammar.{IsVolume, HasFault}
-use Rattle.volume_reader.specs.Finding.{EndsBy}
+use Rattle.mm_base.specs.End.{EndsBy}
 use Rattle.volume_reader.proofs.HeaderLemmas.{passed, first_near}
 use Rattle.volume_reader.proofs.LawLemmas.{is_volume, told_found, told_first}
 use Rattle.volume_reader.proofs.reading.read_volume.Goals as goal

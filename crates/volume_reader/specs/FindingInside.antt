@@ -1,12 +1,11 @@
+-- No public clause cites this file.
 -- What is found at a place of a volume.
 use Rattle.std.specs.Prelude.{◌≡◌, ℕ, ◌+◌, Bool, if◌then◌else◌, List, [], ◌∷◌, Option, Some, None}
 use Rattle.mm_base.specs.declared.volume.File.{File}
 use Rattle.volume_reader.specs.VolumeHeader.{up_to_8}
 use Rattle.volume_reader.specs.FileHeader.{Area, size_at, file_at}
 use Rattle.volume_reader.specs.VolumeGrammar.{EndsAt, Span, HasHeader, StandsAt, place_behind, files_of, IsBadAt, IsRefusedAt, Leads, files_in}
-use Rattle.volume_reader.specs.declared.reading.VolumeFault.{VolumeFault}
-use Rattle.volume_reader.specs.declared.reading.VolumeEnd.{VolumeEnd}
-use Rattle.volume_reader.specs.declared.reading.VolumeEnd.TheVariants.{Fault, NoMemory}
+use Rattle.volume_reader.specs.declared.volume_fault.VolumeFault.{VolumeFault}
 use Rattle.volume_reader.specs.declared.area.Found.{Found}
 use Rattle.volume_reader.specs.declared.area.Found.TheVariants.{End, Refused, Behind}
 
@@ -48,8 +47,3 @@ pub record HasFaultFrom (area : Area) (first : ℕ) (fault : VolumeFault) : Type
   pub spans : List Span
   pub leads : Leads area first spans fault.at
   pub refused : IsRefusedAt area fault.at fault.kind
-
--- A reader ended by such a fault, or for want of memory.
-abbrev pub EndsBy : (VolumeFault → Type 0) → VolumeEnd → Type 0
-EndsBy HasIt (Fault fault) = HasIt fault
-EndsBy HasIt NoMemory = Unit {0}
