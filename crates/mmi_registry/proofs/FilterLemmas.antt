@@ -23,14 +23,23 @@ length-filter_filter p q (x ∷ xs) =
     ]
 
 -- r passes what p passes and what q passes, and no element passes both
-pub length-filter_split : {X : Type 0} (p q r : X → Bool) (xs : List X) → All (λ x. cond (r x) 1 0 ≡ cond (p x) 1 0 + cond (q x) 1 0) xs → length (filter r xs) ≡ length (filter p xs) + length (filter q xs)
-length-filter_split p q r [] each = refl
-length-filter_split {X} p q r (x ∷ xs) each =
-    let One : X → Type 0 = λ y. cond (r y) 1 0 ≡ cond (p y) 1 0 + cond (q y) 1 0 in
-    let rest : length (filter r xs) ≡ length (filter p xs) + length (filter q xs) = length-filter_split p q r xs (All-tail One x xs each) in
-    let first : cond (r x) 1 0 ≡ cond (p x) 1 0 + cond (q x) 1 0 = All-head One x xs each in
-    omega (arith, length-kept (r x) x (filter r xs), length-kept (p x) x (filter p xs), length-kept (q x) x (filter q xs))
+module _ {X : Type 0} (p q r : X → Bool) where
+  abbrev pub Parts : X → Type 0
+  Parts x = cond (r x) 1 0 ≡ cond (p x) 1 0 + cond (q x) 1 0
 
-pub length-filter_push : {X : Type 0} (p : X → Bool) (xs : List X) (x : X) → length (filter p (xs ++ x ∷ [])) ≡ length (filter p xs) + cond (p x) 1 0
+  pub length-filter_split : (xs : List X) → All Parts xs → length (filter r xs) ≡ length (filter p xs) + length (filter q xs)
+  length-filter_split [] each = refl
+  length-filter_split (x ∷ xs) each =
+      let rest : length (filter r xs) ≡ length (filter p xs) + length (filter q xs) = length-filter_split xs (All-tail Parts x xs each) in
+      let first : cond (r x) 1 0 ≡ cond (p x) 1 0 + cond (q x) 1 0 = All-head Parts x xs each in
+      omega (
+        arith,
+        length-kept (r x) x (filter r xs),
+        length-kept (p x) x (filter p xs),
+        length-kept (q x) x (filter q xs),
+      )
+
+pub length-filter_push : {X : Type 0} (p : X → Bool) (xs : List X) (x : X)
+    → length (filter p (xs ++ x ∷ [])) ≡ length (filter p xs) + cond (p x) 1 0
 length-filter_push p xs x =
     omega (arith, ap length (filter-append p xs (x ∷ [])), length-append (filter p xs) (filter p (x ∷ [])), length-kept (p x) x [])

@@ -1,5 +1,5 @@
 pub mod ChainLemmas
 pub mod FilterLemmas
-pub mod KeptLemmas
 pub mod NumberLemmas
+pub mod RegistryLemmas
 pub mod RoomLemmas

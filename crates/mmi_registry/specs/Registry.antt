@@ -1,5 +1,6 @@
 -- What contracts see of a registry, what holds of each, and when one refuses.
-use Rattle.std.specs.Prelude.{ℕ, ◌+◌, ◌-◌, ◌^◌, ◌<◌, ◌≤◌, Bool, false, ◌==◌, ◌||◌, nat_le, List, [], ◌∷◌, ◌++◌, length, All, AllPairs, Option}
+use Rattle.std.specs.Prelude.{ℕ, ◌+◌, ◌-◌, ◌^◌, ◌<◌, ◌≤◌, Bool, false, ◌==◌, ◌||◌, nat_le, List, [], ◌∷◌, ◌++◌, length}
+use Rattle.std.specs.Prelude.{All, AllPairs, Option}
 use Rattle.mm_base.specs.declared.guid.Guid.{Guid}
 use Rattle.mm_base.specs.declared.handler.Handler.{Handler}
 use Rattle.mm_base.specs.declared.handler.HandlerBody.{HandlerBody}
@@ -12,7 +13,7 @@ pub record RegistryState : Type 0 where
   pub next : ℕ
   pub frozen : Bool
 
--- Numbers rise in order of registration, and the next one is over them all.
+-- Numbers rise in order of registration, and the next one is above them all.
 pub record IsNumbered (handlers : List Handler) (next : ℕ) : Type 0 where
   pub rising : AllPairs (λ earlier later. earlier.number < later.number) handlers
   pub below : All (λ handler. handler.number < next) handlers
@@ -23,14 +24,15 @@ IsAdmissible Version = Unit {0}
 IsAdmissible (Stub status) = Unit {0}
 IsAdmissible (Code image address) = image < 32
 
--- The handlers are few enough for the room: 8 of each of the 32 images, and 65 that are built in.
+-- The handlers are within the limits: 8 of each of the 32 images, and 65 that are built in.
 pub record IsWithinRoom (handlers : List Handler) : Type 0 where
   pub admissible : All (λ handler. IsAdmissible handler.body) handlers
   pub of_image : (image : ℕ) → length (owned_by image handlers) ≤ 8
   pub built_in : length (built_ins handlers) ≤ 65
 
--- What each registry keeps: its numbers rise, its handlers are few, and its memory has place for all that may come.
-pub record IsKept (handlers : List Handler) (next capacity : ℕ) : Type 0 where
+-- What holds of each registry: its numbers rise, its handlers are within the limits, and its memory has place for all
+-- that may come: 8 * 32 + 65 are 321.
+pub record IsRegistry (handlers : List Handler) (next capacity : ℕ) : Type 0 where
   pub numbered : IsNumbered handlers next
   pub few : IsWithinRoom handlers
   pub place : 321 ≤ capacity

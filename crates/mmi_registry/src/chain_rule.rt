@@ -1,15 +1,15 @@
 //! The chain rule: what a handler's status makes of the result of its chain.
 ghost use Rattle.std.specs.Prelude.{◌≡◌};
-ghost use Rattle.mmi_registry.specs.ChainRule.{stops, result_behind};
+ghost use Rattle.mmi_registry.specs.ChainRule.{stops, result_after};
 
 use mm_base::status::{
     INTERRUPT_PENDING, SUCCESS, WARN_INTERRUPT_SOURCE_PENDING, WARN_INTERRUPT_SOURCE_QUIESCED,
 };
 
-/// The result of a chain behind a handler that returned `status`, and whether the chain stops there. Before the first
-/// handler the result is NOT_FOUND.
+/// The result of a chain after a handler that returned `status`, where it was `so_far`; and whether the chain stops
+/// there. Before the first handler it is NOT_FOUND. `root` says that the chain is the root chain.
 pub fn combine(root: bool, so_far: u64, status: u64) -> (u64, bool)
-    ensures becomes { result.0 ≡ result_behind root so_far status }
+    ensures becomes { result.0 ≡ result_after root so_far status }
     ensures stops { result.1 ≡ stops root status }
 {
     match status {

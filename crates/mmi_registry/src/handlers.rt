@@ -1,6 +1,7 @@
 //! Handlers in order of registration: what is looked up in them, and how some are removed.
 ghost use Rattle.std.specs.Prelude.{◌≡◌, length, slice_get, vec_capacity};
-ghost use Rattle.mmi_registry.specs.Handlers.{is_code_of, owned_by, chain_of, handler_at, without_number, without_image};
+ghost use Rattle.mmi_registry.specs.Handlers.{is_code_of, owned_by, chain_of, handler_at, without_number};
+ghost use Rattle.mmi_registry.specs.Handlers.{without_image};
 
 use mm_base::{Guid, Handler, HandlerBody};
 

@@ -1,8 +1,11 @@
 //! The registry of handlers. All its memory is taken when it is made.
-ghost use Rattle.std.specs.Prelude.{◌≡◌, ◌↔◌, ◌+◌, ◌<◌, ◌≤◌, false, true, Some, None, [], length, slice_get, All, IsTrue, IsNone, IsSomeAnd, IfOk, OnOk, OnErr};
+ghost use Rattle.std.specs.Prelude.{◌≡◌, ◌↔◌, ◌+◌, ◌<◌, ◌≤◌, false, true, Some, None, [], length, slice_get, All};
+ghost use Rattle.std.specs.Prelude.{IsTrue, IsNone, IsSomeAnd, IfOk, OnOk, OnErr};
 ghost use Rattle.std.specs.Bool.{IsFalse};
-ghost use Rattle.mmi_registry.specs.Handlers.{is_of, is_built_in, built_ins, chain_of, handler_at, without_number, without_image};
-ghost use Rattle.mmi_registry.specs.Registry.{IsNumbered, IsWithinRoom, IsAdmissible, is_quota_used, is_at_limit, with_handler};
+ghost use Rattle.mmi_registry.specs.Handlers.{is_of, is_built_in, built_ins, chain_of, handler_at, without_number};
+ghost use Rattle.mmi_registry.specs.Handlers.{without_image};
+ghost use Rattle.mmi_registry.specs.Registry.{IsNumbered, IsWithinRoom, IsAdmissible, is_quota_used, is_at_limit};
+ghost use Rattle.mmi_registry.specs.Registry.{with_handler};
 
 use crate::handlers::{find_number, is_owned, nth_of, owned_count, remove_image, remove_number};
 use mm_base::{Guid, Handler, HandlerBody, NoMemory};
@@ -10,7 +13,7 @@ use std::alloc::Global;
 use std::marker::Model;
 
 /// How many images may have handlers.
-const MOST_IMAGES: usize = 32;
+pub const MOST_IMAGES: usize = 32;
 
 /// How many handlers an image may have at a time.
 pub const MOST_OF_IMAGE: usize = 8;
@@ -41,8 +44,8 @@ pub enum UnregisterEnd {
     NotMine,
 }
 
-/// The handlers of interrupts in order of registration. Their numbers rise from 0, and none is used again unless the count
-/// is set back by `forget`.
+/// The handlers of interrupts in order of registration. Their numbers rise from 0, and none is used again unless the
+/// count is set back by `forget`.
 #[derive(Debug, Drop)]
 pub struct Registry {
     handlers: Vec<Handler>,
@@ -52,17 +55,17 @@ pub struct Registry {
 
 impl Model for Registry {
     ghost use Rattle.std.specs.Prelude.{vec_capacity};
-    ghost use Rattle.mmi_registry.specs.Registry.{RegistryState, IsKept};
+    ghost use Rattle.mmi_registry.specs.Registry.{RegistryState, IsRegistry};
 
     ghost Value = { RegistryState };
 
     ghost view = { λ r. record { handlers = r.handlers.items; next = r.next; frozen = r.frozen } };
 
-    ghost invariant = { λ r. IsKept r.handlers.items r.next (vec_capacity r.handlers) };
+    ghost invariant = { λ r. IsRegistry r.handlers.items r.next (vec_capacity r.handlers) };
 }
 
 impl Registry {
-    /// A registry without handlers. It takes the memory for all that may come.
+    /// A registry without handlers. It takes the memory for all that may come, so that no other call takes any.
     pub fn new(alloc: Global) -> Result<Registry, NoMemory>
         ensures { IfOk result (λ r. r ≡ record { handlers = []; next = 0; frozen = false }) }
     {
@@ -74,7 +77,8 @@ impl Registry {
         })
     }
 
-    /// Registers a handler for a GUID, or for the root chain where there is none, and answers its number.
+    /// Registers a handler for a GUID, or for the root chain where there is none, and answers its number. It costs one
+    /// step a handler.
     pub fn register(&mut self, guid: Option<Guid>, body: HandlerBody) -> Result<u32, RegisterEnd>
         requires admissible { IsAdmissible body }
         requires room { IsTrue (is_built_in body) → length (built_ins self.old.handlers) < 65 }
@@ -100,7 +104,7 @@ impl Registry {
         Ok(number)
     }
 
-    /// Removes the handler of this number, at the wish of its image.
+    /// Removes the handler of this number. Only its own image may. It costs one step a handler.
     pub fn unregister(&mut self, number: u32, image: u32) -> Result<(), UnregisterEnd>
         ensures removes { let left = without_number number self.old.handlers in
             OnOk result (self.new ≡ record self.old { handlers = left }) }
@@ -130,28 +134,30 @@ impl Registry {
         }
     }
 
-    /// The handler at place `k` of a GUID's chain, in order of registration; None past the last.
+    /// The handler at place `k` of a GUID's chain, in order of registration; None past the last. It costs one step a
+    /// handler.
     pub fn chain(&self, guid: Guid, k: u32) -> Option<Handler>
         ensures { result ≡ slice_get (chain_of (Some guid) self.now.handlers) k }
     {
         nth_of(&self.handlers, Some(guid), k)
     }
 
-    /// The handler at place `k` of the root chain, in order of registration; None past the last.
+    /// The handler at place `k` of the root chain, in order of registration; None past the last. It costs one step a
+    /// handler.
     pub fn root(&self, k: u32) -> Option<Handler>
         ensures { result ≡ slice_get (chain_of None self.now.handlers) k }
     {
         nth_of(&self.handlers, None, k)
     }
 
-    /// The handler at place `k` of all, in order of registration; None past the last.
+    /// The handler at place `k` of all, in order of registration; None past the last. It costs one step.
     pub fn all(&self, k: u32) -> Option<Handler>
         ensures { result ≡ slice_get self.now.handlers k }
     {
         self.handlers.get(k as usize).copied()
     }
 
-    /// How many handlers there are.
+    /// How many handlers there are: 321 at most.
     pub fn len(&self) -> usize
         ensures value { result ≡ length self.now.handlers }
         ensures within { IsWithinRoom self.now.handlers }
@@ -175,7 +181,8 @@ impl Registry {
         self.frozen
     }
 
-    /// Removes all handlers of an image, and sets the number that the next handler gets.
+    /// Removes all handlers of an image, and sets back the number that the next handler gets, to one above the numbers
+    /// that are left. It costs one step a handler.
     pub fn forget(&mut self, image: u32, next: u32)
         requires back { next ≤ self.old.next }
         requires over { All (λ handler. handler.number < next) (without_image image self.old.handlers) }
@@ -194,7 +201,7 @@ impl Registry {
     }
 }
 
-/// Whether the image of this body has as many handlers as it may have.
+/// Whether the image of this body has as many handlers as it may have. A body that is built in has no image.
 fn has_used_quota(handlers: &[Handler], body: HandlerBody) -> bool
     ensures { result ≡ is_quota_used body handlers.now }
 {

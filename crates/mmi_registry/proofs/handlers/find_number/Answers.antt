@@ -6,4 +6,5 @@ use Rattle.mmi_registry.proofs.handlers.find_number.Goals as goal
 pub returns : goal.returns
 returns c =
     c.copied.ensures
-    ∙ find_from_yields_List (λ handler. handler.number == c.args.number) _ _ _ c.find.ensures.ran (YieldsList-from_slice c.args.handlers.now cc) (λ x b q k. search (rules, tests))
+    ∙ find_from_yields_List (λ handler. handler.number == c.args.number) _ _ _ c.find.ensures.ran
+    (YieldsList-from_slice c.args.handlers.now cc) (λ x b q k. search (rules, tests))

@@ -6,4 +6,5 @@ use Rattle.mmi_registry.proofs.handlers.nth_of.Goals as goal
 pub returns : goal.returns
 returns c =
     c.copied.ensures
-    ∙ nth_from_yields_List _ _ _ c.nth.ensures.ran (YieldsList-from_filter _ _ (YieldsList-from_slice c.args.handlers.now cc) c.filter.ensures.closure (λ x r q k. search (rules, tests)))
+    ∙ nth_from_yields_List _ _ _ c.nth.ensures.ran
+    (YieldsList-from_filter _ _ (YieldsList-from_slice c.args.handlers.now cc) c.filter.ensures.closure (λ x r q k. search (rules, tests)))
