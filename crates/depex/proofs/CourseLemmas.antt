@@ -7,7 +7,7 @@ use Rattle.depex.specs.declared.found.Found.{Found}
 use Rattle.depex.specs.declared.found.Found.TheVariants.{End, Next, Refused}
 use Rattle.depex.specs.Trees.{Tree, True, False, Push, Not, And, Or, postfix, need, taken_by, item_bytes, bytes_of, HasGuids}
 use Rattle.depex.specs.Expressions.{items_of, AreOperands}
-use Rattle.depex.specs.Finding.{IsWhole, MayStand}
+use Rattle.depex.specs.FindingInside.{IsWhole, MayStand}
 use Rattle.depex.specs.Building.{negated, joined, built, tree_on, built-postfix}
 use Rattle.depex.proofs.SightLemmas.{sight, next_seen}
 

@@ -11,7 +11,7 @@ use Rattle.depex.specs.declared.found.Found.{Found}
 use Rattle.depex.specs.declared.found.Found.TheVariants.{End, Next, Refused}
 use Rattle.depex.specs.Trees.{Tree, after_opcode, taken_by, guid_of, item_bytes, bytes_of}
 use Rattle.depex.specs.Expressions.{Expression, Condition, Before, After, spelled, IsExpression, items_of, StandsBehind, HasFault}
-use Rattle.depex.specs.Finding.{IsWhole, Finds, IsName}
+use Rattle.depex.specs.FindingInside.{IsWhole, Finds, IsName}
 use Rattle.depex.proofs.WalkLemmas.{stand_more, few_operands, none_first, ends_condition, name_is, before_is, after_is}
 use Rattle.depex.proofs.SightLemmas.{ended, judged, sight}
 use Rattle.depex.proofs.LawLemmas.{IsVerdict, NamesNone}

@@ -10,13 +10,14 @@ use Rattle.depex.specs.declared.item.Item.TheVariants as items
 use Rattle.depex.specs.declared.found.Found.{Found}
 use Rattle.depex.specs.declared.found.Found.TheVariants.{End, Refused}
 use Rattle.depex.specs.declared.expression.Kept.{Kept}
-use Rattle.depex.specs.declared.reading.DepexEnd.{DepexEnd}
-use Rattle.depex.specs.declared.reading.DepexEnd.TheVariants as ends
+use Rattle.mm_base.specs.End.{EndsBy, out_of_memory}
+use Rattle.mm_base.specs.declared.end.End.{End as EndOf}
+use Rattle.mm_base.specs.declared.end.End.TheVariants as ends
 use Rattle.depex.specs.Trees.{Tree, True, False, Push, Not, And, Or, postfix, opcode_of, before_opcode, after_opcode, end_opcode, item_bytes, bytes_of}
 use Rattle.depex.specs.Expressions.{Expression, Condition, Before, After, IsExpression, items_of, IsRefused, StopsAt, HasFaultInside, IsRefusedName, HasFault}
 use Rattle.depex.specs.Building.{tree_on-postfix}
 use Rattle.depex.specs.Keeping.{kept_of, expression_of}
-use Rattle.depex.specs.Finding.{IsName, IsKeptOf, EndsBy}
+use Rattle.depex.specs.FindingInside.{IsName, IsKeptOf}
 use Rattle.depex.proofs.SightLemmas.{sight, stops_seen}
 use Rattle.depex.proofs.CourseLemmas.{Leads, IsStop, tree_leads, operands_lead, one_course, one_tree}
 
@@ -295,19 +296,19 @@ pub one_fault : (bytes : List ℕ) (one other : DepexFault) → HasFault bytes o
 one_fault bytes one other a b = let e : Err one ≡ Err other = one_verdict bytes (Err one) (Err other) a b in cc
 
 -- what a reader answers is the expression, or the fault, that the bytes come to
-pub told_found : (bytes : List ℕ) (result : Result Expression DepexEnd) → IfOk result (IsExpression bytes)
+pub told_found : (bytes : List ℕ) (result : Result Expression (EndOf DepexFault)) → IfOk result (IsExpression bytes)
     → IfErr result (EndsBy (HasFault bytes))
-    → (expression : Expression) → IsExpression bytes expression → (result ≡ Ok expression) ⊎ (result ≡ Err ends.NoMemory)
+    → (expression : Expression) → IsExpression bytes expression → (result ≡ Ok expression) ⊎ (result ≡ Err (ends.NoMemory out_of_memory))
 told_found bytes (Ok other) ok err expression is = inl (ap (λ (e : Expression). Ok e) (one_expression bytes other expression ok is))
 told_found bytes (Err (ends.Fault fault)) ok err expression is = absurd (never_both bytes expression fault is err)
-told_found bytes (Err ends.NoMemory) ok err expression is = inr refl
+told_found bytes (Err (ends.NoMemory refused)) ok err expression is = inr refl
 
-pub told_first : (bytes : List ℕ) (result : Result Expression DepexEnd) → IfOk result (IsExpression bytes)
+pub told_first : (bytes : List ℕ) (result : Result Expression (EndOf DepexFault)) → IfOk result (IsExpression bytes)
     → IfErr result (EndsBy (HasFault bytes))
-    → (fault : DepexFault) → HasFault bytes fault → (result ≡ Err (ends.Fault fault)) ⊎ (result ≡ Err ends.NoMemory)
+    → (fault : DepexFault) → HasFault bytes fault → (result ≡ Err (ends.Fault fault)) ⊎ (result ≡ Err (ends.NoMemory out_of_memory))
 told_first bytes (Ok expression) ok err fault has = absurd (never_both bytes expression fault ok has)
 told_first bytes (Err (ends.Fault other)) ok err fault has = inl (ap (λ f. Err (ends.Fault f)) (one_fault bytes other fault err has))
-told_first bytes (Err ends.NoMemory) ok err fault has = inr refl
+told_first bytes (Err (ends.NoMemory refused)) ok err fault has = inr refl
 
 -- what is kept of an expression stands for it
 pub expression_of-kept_of : (expression : Expression) → expression_of (kept_of expression) ≡ expression

@@ -11,7 +11,7 @@ use Rattle.depex.specs.declared.found.Found.{Found}
 use Rattle.depex.specs.declared.found.Found.TheVariants.{End, Next, Refused}
 use Rattle.depex.specs.Trees.{opcode_of, taken_by, item_bytes}
 use Rattle.depex.specs.Expressions.{IsRefused, StopsAt}
-use Rattle.depex.specs.Finding.{IsWhole, MayStand, FindsItem, EndsAt}
+use Rattle.depex.specs.FindingInside.{IsWhole, MayStand, FindsItem, EndsAt}
 
 -- an operand
 abbrev pub operand : ℕ → ℕ → Item → Found

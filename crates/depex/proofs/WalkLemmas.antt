@@ -8,7 +8,7 @@ use Rattle.depex.specs.Trees.{Tree, True, False, Push, Not, And, Or, postfix, ne
 use Rattle.mm_base.specs.declared.guid.Guid.{Guid}
 use Rattle.mm_base.specs.declared.expression.DepexFault.{DepexFault}
 use Rattle.depex.specs.Expressions.{Before, After, IsExpression, items_of, AreOperands, StandsBehind, StopsAt, HasFaultInside}
-use Rattle.depex.specs.Finding.{IsWhole, MayStand, FindsItem, EndsAt, IsCondition, IsName}
+use Rattle.depex.specs.FindingInside.{IsWhole, MayStand, FindsItem, EndsAt, IsCondition, IsName}
 
 -- the bytes of items and one more
 pub bytes_of-push : (some : List Item) (item : Item) → bytes_of (some ++ item ∷ []) ≡ bytes_of some ++ item_bytes item

@@ -10,8 +10,8 @@ use Rattle.depex.specs.Expressions.{Condition, Before, After}
 use Rattle.depex.specs.Building.{tree_on-postfix}
 use Rattle.depex.specs.Keeping.{expression_of, IsKept}
 use Rattle.depex.specs.Meaning.{holds_on}
-use Rattle.depex.specs.Finding.{MayStand}
-use Rattle.depex.specs.Working.{AreItems, Works}
+use Rattle.depex.specs.FindingInside.{MayStand}
+use Rattle.depex.specs.WorkingInside.{AreItems, Works}
 use Rattle.depex.proofs.CourseLemmas.{Leads, tree_leads}
 
 -- items lead from these truth values to those

@@ -1,9 +1,9 @@
 pub mod Building
 pub mod ExpressionCode
 pub mod Expressions
-pub mod Finding
+pub mod FindingInside
 pub mod Keeping
 pub mod Laws
 pub mod Meaning
 pub mod Trees
-pub mod Working
+pub mod WorkingInside

@@ -1,9 +1,9 @@
 //! Whether an expression holds.
 ghost use Rattle.std.specs.Prelude.{◌≡◌, length};
 ghost use Rattle.depex.specs.Trees.{Tree, truth, postfix};
-ghost use Rattle.depex.specs.Finding.{MayStand};
+ghost use Rattle.depex.specs.FindingInside.{MayStand};
 ghost use Rattle.depex.specs.Meaning.{holds_on};
-ghost use Rattle.depex.specs.Working.{AreItems, Works};
+ghost use Rattle.depex.specs.WorkingInside.{AreItems, Works};
 
 use crate::expression::{Depex, Kept};
 use crate::installed::Installed;

@@ -1,7 +1,7 @@
 //! Items of a dependency expression.
 ghost use Rattle.std.specs.Prelude.{◌≡◌, ◌+◌, length};
 ghost use Rattle.depex.specs.Trees.{taken_by, guid_of};
-ghost use Rattle.depex.specs.Finding.{IsWhole};
+ghost use Rattle.depex.specs.FindingInside.{IsWhole};
 
 use mm_base::{GUID_BYTES, Guid};
 

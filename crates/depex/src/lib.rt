@@ -1,4 +1,5 @@
-//! Dependency expressions: their bytes, read as trees, and whether a tree holds.
+//! Floor: readers. It promises of any bytes the dependency expression that they begin with, or the first fault, and of an
+//! expression whether it holds. It never reads past END, and takes no memory but for the list of a condition's items.
 #![tactic(auto)]
 
 mod expression;

@@ -1,7 +1,7 @@
 //! What stands at a place of a condition.
 ghost use Rattle.std.specs.Prelude.{◌≡◌, ◌<◌, ◌≤◌, ◌++◌, ◌∷◌, ℕ, List, drop, length, false};
 ghost use Rattle.depex.specs.Trees.{opcode_of, guid_of};
-ghost use Rattle.depex.specs.Finding.{Finds, IsWhole, names_driver};
+ghost use Rattle.depex.specs.FindingInside.{Finds, IsWhole, names_driver};
 
 use crate::found::Found;
 use crate::item::Item;

@@ -1,45 +1,24 @@
 //! How an expression is read.
 ghost use Rattle.std.specs.Prelude.{◌≡◌, ◌≤◌, ◌⊎◌, length, true, false, Ok, Err, IfOk, IfErr};
 ghost use Rattle.mm_base.specs.declared.expression.DepexFault.{DepexFault as DepexFaultValue};
-ghost use Rattle.depex.specs.declared.reading.DepexEnd.TheVariants.{Fault as FaultOf, NoMemory as OutOfMemory};
+ghost use Rattle.mm_base.specs.End.{EndsBy, out_of_memory};
+ghost use Rattle.mm_base.specs.declared.end.End.TheVariants.{Fault as FaultOf, NoMemory as OutOfMemory};
 ghost use Rattle.depex.specs.Expressions.{Expression, IsExpression, IsRefusedName, HasFaultInside, HasFault};
-ghost use Rattle.depex.specs.Finding.{names_driver, IsCondition, IsName, IsKeptOf, EndsBy};
+ghost use Rattle.depex.specs.FindingInside.{names_driver, IsCondition, IsName, IsKeptOf};
 
 use crate::expression::{Depex, Kept};
 use crate::found::Found;
 use crate::item::Item;
 use crate::look::look;
 use crate::opcode::{AFTER, BEFORE, END};
-use mm_base::{DepexFault, GUID_BYTES, Guid, List, NoMemory, guid_at};
+use mm_base::{DepexFault, End, GUID_BYTES, Guid, List, guid_at};
 use std::alloc::Global;
 
 /// The place behind a BEFORE or AFTER that stands first, with its GUID.
 const BEHIND_NAME: u32 = 17;
 
-/// Why bytes were not read as an expression.
-#[derive(Clone, Copy, Debug, PartialEq, Eq)]
-pub enum DepexEnd {
-    /// They spell none.
-    Fault(DepexFault),
-    /// Memory was refused.
-    NoMemory,
-}
-
-impl From<DepexFault> for DepexEnd {
-    ghost from_gives = { λ fault end. end ≡ FaultOf fault };
-
-    fn from(fault: DepexFault) -> Self {
-        DepexEnd::Fault(fault)
-    }
-}
-
-impl From<NoMemory> for DepexEnd {
-    ghost from_gives = { λ _ end. end ≡ OutOfMemory };
-
-    fn from(_: NoMemory) -> Self {
-        DepexEnd::NoMemory
-    }
-}
+/// Why bytes were not read as an expression: their first fault, or out of memory.
+pub type DepexEnd = End<DepexFault>;
 
 /// The items of the condition that the bytes begin with; linear in them.
 fn read_items(alloc: Global, bytes: &[u8]) -> Result<List<Item>, DepexEnd>
@@ -54,7 +33,7 @@ fn read_items(alloc: Global, bytes: &[u8]) -> Result<List<Item>, DepexEnd>
     loop {
         match look(bytes, at, operands) {
             Found::End => return Ok(items),
-            Found::Refused(fault) => return Err(DepexEnd::Fault(fault)),
+            Found::Refused(fault) => return Err(End::Fault(fault)),
             Found::Next(item) => {
                 items.push(item)?;
                 operands = operands - item.takes() + 1;
@@ -90,8 +69,8 @@ fn read_kept(alloc: Global, bytes: &[u8]) -> Result<Kept, DepexEnd>
     ensures fault { IfErr result (EndsBy (HasFault bytes.now)) }
 {
     match bytes {
-        [BEFORE, behind @ ..] => Ok(Kept::Before(read_name(behind)?)),
-        [AFTER, behind @ ..] => Ok(Kept::After(read_name(behind)?)),
+        [BEFORE, behind @ ..] => Ok(Kept::Before(read_name(behind).map_err(End::Fault)?)),
+        [AFTER, behind @ ..] => Ok(Kept::After(read_name(behind).map_err(End::Fault)?)),
         _ => Ok(Kept::Items(read_items(alloc, bytes)?)),
     }
 }
@@ -103,9 +82,9 @@ pub fn parse(alloc: Global, bytes: &[u8]) -> Result<Depex, DepexEnd>
     ensures expression { IfOk result (IsExpression bytes.now) }
     ensures fault { IfErr result (EndsBy (HasFault bytes.now)) }
     ensures found { (expression : Expression) → IsExpression bytes.now expression
-        → (result ≡ Ok expression) ⊎ (result ≡ Err OutOfMemory) }
+        → (result ≡ Ok expression) ⊎ (result ≡ Err (OutOfMemory out_of_memory)) }
     ensures first { (fault : DepexFaultValue) → HasFault bytes.now fault
-        → (result ≡ Err (FaultOf fault)) ⊎ (result ≡ Err OutOfMemory) }
+        → (result ≡ Err (FaultOf fault)) ⊎ (result ≡ Err (OutOfMemory out_of_memory)) }
 {
     let kept = read_kept(alloc, bytes)?;
     Ok(Depex { kept })

@@ -2,9 +2,9 @@
 ghost use Rattle.std.specs.Prelude.{◌==◌, slice_index};
 
 use crate::opcode::{AND, END, FALSE, MOST_OPERANDS, NOT, OR, PUSH, TRUE};
-use crate::{Depex, DepexEnd, DepexFault, Installed, holds, parse};
-use mm_base::Guid;
-use std::alloc::{AllocError, Global};
+use crate::{Depex, DepexFault, Installed, holds, parse};
+use mm_base::{End, Guid, NoMemory};
+use std::alloc::Global;
 use std::test::Fail;
 
 /// The most bytes that the reader takes.
@@ -49,8 +49,8 @@ fn answer(alloc: Global, bytes: &[u8]) -> Judgement {
     }
     match parse(alloc, bytes) {
         Ok(depex) => judged(&depex),
-        Err(DepexEnd::Fault(fault)) => Judgement::Fault(fault),
-        Err(DepexEnd::NoMemory) => Judgement::NoMemory,
+        Err(End::Fault(fault)) => Judgement::Fault(fault),
+        Err(End::NoMemory(_)) => Judgement::NoMemory,
     }
 }
 
@@ -199,7 +199,7 @@ fn judges_expressions(rt: HostRuntime) {
 }
 
 /// So many operands that all stand before their operators, with a NOT of the last one.
-fn deep(alloc: Global, operand: u8, count: usize, operator: u8) -> Result<Vec<u8>, AllocError> {
+fn deep(alloc: Global, operand: u8, count: usize, operator: u8) -> Result<Vec<u8>, NoMemory> {
     let mut bytes = Vec::new(alloc);
     for _ in 0..count {
         bytes.push(operand)?;
@@ -213,7 +213,7 @@ fn deep(alloc: Global, operand: u8, count: usize, operator: u8) -> Result<Vec<u8
 }
 
 /// A value that so many operators take in turn, each with one operand of its own.
-fn long(alloc: Global, count: usize, operator: u8) -> Result<Vec<u8>, AllocError> {
+fn long(alloc: Global, count: usize, operator: u8) -> Result<Vec<u8>, NoMemory> {
     let mut bytes = Vec::new(alloc);
     bytes.push(TRUE)?;
     for _ in 0..count {
@@ -224,7 +224,7 @@ fn long(alloc: Global, count: usize, operator: u8) -> Result<Vec<u8>, AllocError
     Ok(bytes)
 }
 
-fn is(alloc: Global, bytes: Result<Vec<u8>, AllocError>, wanted: Judgement) -> bool {
+fn is(alloc: Global, bytes: Result<Vec<u8>, NoMemory>, wanted: Judgement) -> bool {
     match bytes {
         Ok(bytes) => answer(alloc, bytes.as_slice()) == wanted,
         Err(_) => false,

@@ -1,5 +1,5 @@
 use Rattle.std.proofs.Common.{ℕ, ◌∷◌, sym, subst}
-use Rattle.depex.specs.Finding.{Finds}
+use Rattle.depex.specs.FindingInside.{Finds}
 use Rattle.depex.proofs.look.judge.Goals as goal
 
 pub returns-in-3 : goal.returns-in-3

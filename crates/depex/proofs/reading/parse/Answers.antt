@@ -1,7 +1,7 @@
 use Rattle.std.proofs.Common.{IfOk, IfErr, Ok, rules}
 use Rattle.depex.specs.Expressions.{IsExpression, HasFault}
 use Rattle.depex.specs.Keeping.{expression_of}
-use Rattle.depex.specs.Finding.{EndsBy}
+use Rattle.mm_base.specs.End.{EndsBy}
 use Rattle.depex.proofs.LawLemmas.{kept_is, told_found, told_first}
 use Rattle.depex.proofs.reading.parse.Goals as goal
 

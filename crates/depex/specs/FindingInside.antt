@@ -1,13 +1,11 @@
--- What a reader finds at a place, and how it ends.
+-- No public clause cites this file.
+-- What a reader finds at a place, and what is kept of it.
 use Rattle.std.specs.Prelude.{◌≡◌, ◌<◌, ◌≤◌, ℕ, Bool, false, nat_le, List, [], ◌∷◌, ◌++◌}
 use Rattle.mm_base.specs.declared.guid.Guid.{Guid}
-use Rattle.mm_base.specs.declared.expression.DepexFault.{DepexFault}
 use Rattle.depex.specs.declared.item.Item.{Item}
 use Rattle.depex.specs.declared.item.Item.TheVariants as items
 use Rattle.depex.specs.declared.found.Found.{Found}
 use Rattle.depex.specs.declared.found.Found.TheVariants.{End, Next, Refused}
-use Rattle.depex.specs.declared.reading.DepexEnd.{DepexEnd}
-use Rattle.depex.specs.declared.reading.DepexEnd.TheVariants.{Fault, NoMemory}
 use Rattle.depex.specs.Trees.{Tree, postfix, after_opcode, end_opcode, taken_by, item_bytes, IsGuid}
 use Rattle.depex.specs.declared.expression.Kept.{Kept}
 use Rattle.depex.specs.Expressions.{Expression, Condition, IsExpression, StopsAt}
@@ -63,8 +61,3 @@ pub record IsName (behind : List ℕ) (guid : Guid) : Type 0 where
 -- This is kept of an expression that the bytes begin with.
 abbrev pub IsKeptOf : List ℕ → Kept → Type 0
 IsKeptOf bytes kept = (expression : Expression) × IsExpression bytes expression × (kept ≡ kept_of expression)
-
--- A reader ended by such a fault, or for want of memory.
-abbrev pub EndsBy : (DepexFault → Type 0) → DepexEnd → Type 0
-EndsBy HasIt (Fault fault) = HasIt fault
-EndsBy HasIt NoMemory = Unit {0}

@@ -1,3 +1,4 @@
+-- No public clause cites this file.
 -- How items are worked off, on truth values that lie on top of one another.
 use Rattle.std.specs.Prelude.{◌≡◌, ◌≤◌, Bool, true, false, not, ◌&&◌, ◌||◌, List, ◌∷◌}
 use Rattle.mm_base.specs.declared.guid.Guid.{Guid}
