@@ -2,7 +2,7 @@
 ghost use Rattle.std.specs.Prelude.{◌≡◌, ◌<◌, ◌^◌, [], ◌∷◌, ◌++◌, length};
 ghost use Rattle.mm_base.specs.Prepared.{Suffices};
 ghost use Rattle.mm_base.specs.Receipt.{receipt_of};
-ghost use Rattle.mm_history.specs.History.{StandsForRun};
+ghost use Rattle.mm_history.specs.History.{IsReplay};
 
 use mm_base::{Entries, Machine, Prepared, Receipt};
 use std::marker::Model;
@@ -26,7 +26,7 @@ impl<M: Machine> Kept<M> {
     /// The machine, before its first request. It takes no memory.
     pub fn begin(machine: M) -> Kept<M>
         ensures begins { result ≡ record { machine = machine; entries = [] } }
-        ensures stands { StandsForRun M.stepped machine result }
+        ensures stands { IsReplay M.stepped machine result }
     {
         Kept {
             machine,
@@ -34,7 +34,7 @@ impl<M: Machine> Kept<M> {
         }
     }
 
-    /// The machine, as it is behind all its entries.
+    /// The machine, as it is after all its entries.
     pub fn machine(&self) -> &M
         ensures { result.now ≡ self.now.machine }
     {
@@ -48,7 +48,7 @@ impl<M: Machine> Kept<M> {
         &self.entries
     }
 
-    /// The machine answers the prepared request, and the entry of it is put at the end. It takes no memory.
+    /// The machine answers the prepared request, and its entry is put at the end. It takes no memory.
     pub fn serve(&mut self, mut prepared: Prepared) -> Receipt
         requires rooms { Suffices (M.most_calls self.old.machine) prepared }
         requires place { length self.old.entries < 2 ^ 63 }
@@ -57,8 +57,9 @@ impl<M: Machine> Kept<M> {
           request = prepared.entry.request;
           outcome = (M.stepped self.old.machine prepared.entry.request).0;
         } ∷ [] }
-        ensures receipt { result ≡ receipt_of (length self.old.entries) (M.stepped self.old.machine prepared.entry.request).0 }
-        ensures stands { (start : M) → StandsForRun M.stepped start self.old → StandsForRun M.stepped start self.new }
+        ensures receipt { result ≡
+            receipt_of (length self.old.entries) (M.stepped self.old.machine prepared.entry.request).0 }
+        ensures stands { (start : M) → IsReplay M.stepped start self.old → IsReplay M.stepped start self.new }
     {
         let position = self.entries.len();
         self.machine.step(&mut prepared);

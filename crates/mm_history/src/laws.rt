@@ -1,10 +1,10 @@
-//! Laws of the histories that stand for a run, for every machine. These functions do nothing: their contracts are the laws.
+//! Laws of histories that are the replay of their requests, for every machine. These functions do nothing: their
+//! contracts are the laws.
 ghost use Rattle.mm_history.specs.Laws.{RequestsDecide, FrontsAreReplayed, EachInItsPlace};
 
 use mm_base::Machine;
 
-/// What a history that stands for a run says: its requests decide all of it, and what comes later leaves what came
-/// before as it is.
+/// The requests of such a history decide all of it, and what comes later leaves what came before as it is.
 pub fn run_of_requests<M: Machine>()
     ensures decide { RequestsDecide M.stepped }
     ensures fronts { FrontsAreReplayed M.stepped }

@@ -1,4 +1,5 @@
-//! A machine with the entries that it served, in recorded order.
+//! Floor: lanes. It promises that a machine with the entries that it served is, after each of them, the replay of their
+//! requests from the machine at the start. It never takes memory, looks at what a request says, or knows of lanes.
 #![tactic(auto)]
 
 mod kept;
