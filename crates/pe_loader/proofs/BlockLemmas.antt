@@ -9,7 +9,7 @@ use Rattle.pe_loader.specs.Headers.{image_size, relocs_of}
 use Rattle.pe_loader.specs.Forms.{plain_form}
 use Rattle.pe_loader.specs.Fixups.{fixup_of, fixup_passes, fixups_from, Block, block_at, directory_end, directory_fits, is_block, block_passes, IsBlockAt, Leads, fixups_in}
 use Rattle.pe_loader.specs.Images.{AreRead, AreRefused}
-use Rattle.pe_loader.specs.Reading.{IsHead}
+use Rattle.pe_loader.specs.ReadingInside.{IsHead}
 use Rattle.pe_loader.specs.declared.fixup.Fixup.{Fixup}
 use Rattle.pe_loader.specs.declared.relocations.Head.{Head}
 

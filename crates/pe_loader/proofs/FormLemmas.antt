@@ -10,8 +10,8 @@ use Rattle.mm_base.specs.declared.image.Part.{Part}
 use Rattle.pe_loader.specs.Headers.{part_count, headers_size, image_size}
 use Rattle.pe_loader.specs.Sections.{part_at, parts, range_of}
 use Rattle.pe_loader.specs.Forms.{copies_to, plain_byte, plain_form}
-use Rattle.pe_loader.specs.Layout.{IsLaidOut, EndBefore, AreInOrder}
-use Rattle.pe_loader.specs.Reading.{IsStretch, CopyNothing, IsReady}
+use Rattle.pe_loader.specs.LayoutInside.{IsLaidOut, EndBefore, AreInOrder}
+use Rattle.pe_loader.specs.ReadingInside.{IsStretch, CopyNothing, IsReady}
 use Rattle.pe_loader.specs.declared.cursor.Cursor.{Cursor}
 use Rattle.pe_loader.proofs.NumberLemmas.{number_at_2, number_at_4}
 use Rattle.pe_loader.proofs.RangeLemmas.{find_none, find_only}

@@ -6,7 +6,7 @@ use Rattle.mm_base.specs.declared.image.PeFault.{PeFault}
 use Rattle.mm_base.specs.declared.image.PeKind.{PeKind}
 use Rattle.mm_base.specs.declared.image.PeKind.TheVariants.{Short}
 use Rattle.pe_loader.specs.Headers.{header_checks, FailsFirst}
-use Rattle.pe_loader.specs.Layout.{HasHeaders}
+use Rattle.pe_loader.specs.LayoutInside.{HasHeaders}
 
 -- a check that is passed
 abbrev pub passed_check : Check PeKind

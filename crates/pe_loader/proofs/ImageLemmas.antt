@@ -12,7 +12,7 @@ use Rattle.mm_base.proofs.RangeLemmas.{overlap_is_a_unit}
 use Rattle.pe_loader.specs.Sections.{part_at, range_of, section_checks, entry_check, checks}
 use Rattle.pe_loader.specs.Fixups.{Block, block_at, is_block, block_passes, IsBlockAt, Leads, fixups_in, directory_end, directory_fits, AreFixups}
 use Rattle.pe_loader.specs.Images.{image_of, IsImage, IsImageOf, AreRead, AreRefused, HasFault}
-use Rattle.pe_loader.specs.Layout.{IsLaidOut}
+use Rattle.pe_loader.specs.LayoutInside.{IsLaidOut}
 use Rattle.pe_loader.specs.declared.fixup.Fixup.{Fixup}
 use Rattle.pe_loader.proofs.HeaderLemmas.{has_headers}
 use Rattle.pe_loader.proofs.SectionLemmas.{laid_out}

@@ -15,8 +15,8 @@ use Rattle.pe_loader.specs.Forms.{copies_to, plain_byte, plain_form}
 use Rattle.pe_loader.specs.Fixups.{fixup_passes, StaysWithin, fixup_of, fixups_from, Block, block_at, is_block, block_passes, Leads, fixups_in, AreFixups}
 use Rattle.pe_loader.specs.Images.{AreRead}
 use Rattle.pe_loader.specs.Loading.{put, fixed}
-use Rattle.pe_loader.specs.Layout.{IsLaidOut}
-use Rattle.pe_loader.specs.Reading.{IsHead}
+use Rattle.pe_loader.specs.LayoutInside.{IsLaidOut}
+use Rattle.pe_loader.specs.ReadingInside.{IsHead}
 use Rattle.pe_loader.specs.declared.fixup.Fixup.{Fixup}
 use Rattle.pe_loader.specs.declared.fixup_kind.FixupKind.{FixupKind}
 use Rattle.pe_loader.specs.declared.fixup_kind.FixupKind.TheVariants.{Absolute, Unknown}

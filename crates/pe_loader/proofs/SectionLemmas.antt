@@ -13,7 +13,7 @@ use Rattle.mm_base.specs.declared.image.PeKind.{PeKind}
 use Rattle.mm_base.specs.declared.image.PeKind.TheVariants.{Section}
 use Rattle.pe_loader.specs.Headers.{part_count, section_at, FailsFirst}
 use Rattle.pe_loader.specs.Sections.{part_at, range_of, lies_in, overlaps_first, section_check, section_checks}
-use Rattle.pe_loader.specs.Layout.{HasHeaders, LiesIn, IsLaidOut, AreInOrder}
+use Rattle.pe_loader.specs.LayoutInside.{HasHeaders, LiesIn, IsLaidOut, AreInOrder}
 use Rattle.pe_loader.proofs.HeaderLemmas.{passed_check, fails}
 use Rattle.pe_loader.proofs.RangeLemmas.{all_pass_from, passes_each}
 

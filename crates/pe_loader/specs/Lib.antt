@@ -5,5 +5,5 @@ pub mod Fixups
 pub mod Images
 pub mod ImageLaws
 pub mod Loading
-pub mod Layout
-pub mod Reading
+pub mod LayoutInside
+pub mod ReadingInside

@@ -4,8 +4,8 @@ ghost use Rattle.mm_base.specs.Numbers.{number_in};
 ghost use Rattle.pe_loader.specs.Headers.{part_count as part_count_told, image_size as image_size_told, headers_size as headers_size_told};
 ghost use Rattle.pe_loader.specs.Sections.{part_at as part_told};
 ghost use Rattle.pe_loader.specs.Forms.{plain_byte, plain_form};
-ghost use Rattle.pe_loader.specs.Layout.{IsLaidOut, EndBefore, AreInOrder};
-ghost use Rattle.pe_loader.specs.Reading.{IsStretch, IsReady};
+ghost use Rattle.pe_loader.specs.LayoutInside.{IsLaidOut, EndBefore, AreInOrder};
+ghost use Rattle.pe_loader.specs.ReadingInside.{IsStretch, IsReady};
 
 use crate::header::{headers_size, image_size, part_count, table_at};
 use crate::sections::{are_in_order, part_at};

@@ -4,16 +4,15 @@ ghost use Rattle.std.specs.Str.{bytes_eq};
 ghost use Rattle.mm_base.specs.Checks.{first_failing};
 ghost use Rattle.mm_base.specs.Numbers.{number_in};
 ghost use Rattle.pe_loader.specs.Headers.{pe_at as pe_place, optional_at as optional_place, machine_of as machine_told, part_count as part_count_told, optional_size as optional_size_told, magic_of as magic_told, image_size as image_size_told, headers_size as headers_size_told, subsystem_of as subsystem_told, directory_count as directory_count_told, table_at as table_place, section_at as section_place, table_end as table_end_place, relocs_of as relocs_told, optional_fits as has_optional_fit, headers_fit as has_headers_fit, header_checks, FailsFirst};
-ghost use Rattle.pe_loader.specs.Layout.{HasHeaders};
+ghost use Rattle.pe_loader.specs.LayoutInside.{HasHeaders};
 
-use crate::checking::check;
 use crate::fields::{
     MACHINE, NUMBER_OF_RVA_AND_SIZES, NUMBER_OF_SECTIONS, OPTIONAL_HEADER, RELOCATIONS_ADDRESS,
     RELOCATIONS_SIZE, SIZE_OF_HEADERS, SIZE_OF_IMAGE, SIZE_OF_OPTIONAL_HEADER, SUBSYSTEM,
 };
 use crate::numbers::{u16_at, u32_at};
-use crate::{PeFault, PeKind};
-use mm_base::{Range, stands_at};
+use crate::pe_fault::fault;
+use mm_base::{PeFault, PeKind, Range, check, stands_at};
 
 /// How many bytes a DOS header has.
 const DOS_BYTES: usize = 64;
@@ -23,6 +22,15 @@ const LFANEW: usize = 0x3c;
 
 /// How many bytes the signature, the file header and an optional header without directories have.
 const LEAST_BYTES: usize = 136;
+
+/// How many bytes an optional header has in front of its directories.
+const OPTIONAL_HEADER_BYTES: usize = 112;
+
+/// How many bytes a directory has.
+const DIRECTORY_BYTES: usize = 8;
+
+/// How many bytes a section header has.
+pub(crate) const SECTION_HEADER_BYTES: usize = 40;
 
 const MZ: [u8; 2] = *b"MZ";
 
@@ -138,7 +146,7 @@ pub(crate) fn section_at(bytes: &[u8], k: u16) -> usize
     requires { optional_place bytes.now + 112 ≤ length bytes.now }
     ensures { result ≡ section_place bytes.now k }
 {
-    table_at(bytes) + 40 * k as usize
+    table_at(bytes) + SECTION_HEADER_BYTES * k as usize
 }
 
 /// The relocation directory.
@@ -173,8 +181,8 @@ fn optional_fits(bytes: &[u8]) -> bool
     requires { optional_place bytes.now + 112 ≤ length bytes.now }
     ensures { result ≡ has_optional_fit bytes.now }
 {
-    let directories = 8 * directory_count(bytes) as usize;
-    112 + directories <= optional_size(bytes) as usize
+    let directories = DIRECTORY_BYTES * directory_count(bytes) as usize;
+    OPTIONAL_HEADER_BYTES + directories <= optional_size(bytes) as usize
         && section_at(bytes, part_count(bytes)) <= bytes.len()
 }
 
@@ -245,39 +253,36 @@ pub(crate) fn check_header(bytes: &[u8]) -> Result<(), PeFault>
     ensures ok { OnOk result (first_failing (header_checks bytes.now) ≡ None) }
     ensures fault { IfErr result (FailsFirst (header_checks bytes.now)) }
 {
-    check(DOS_BYTES <= bytes.len(), 0, PeKind::Short)?;
-    check(is_mz(bytes), 0, PeKind::Mz)?;
-    check(has_room(bytes), LFANEW as u32, PeKind::Lfanew)?;
+    check(DOS_BYTES <= bytes.len(), fault(0, PeKind::Short))?;
+    check(is_mz(bytes), fault(0, PeKind::Mz))?;
+    check(has_room(bytes), fault(LFANEW as u32, PeKind::Lfanew))?;
     let pe = pe_at(bytes) as u32;
-    check(has_signature(bytes), pe, PeKind::Signature)?;
+    check(has_signature(bytes), fault(pe, PeKind::Signature))?;
     check(
         has_known_machine(bytes),
-        pe + MACHINE as u32,
-        PeKind::Machine,
+        fault(pe + MACHINE as u32, PeKind::Machine),
     )?;
     check(
         is_pe32_plus(bytes),
-        pe + OPTIONAL_HEADER as u32,
-        PeKind::Magic,
+        fault(pe + OPTIONAL_HEADER as u32, PeKind::Magic),
     )?;
     check(
         optional_fits(bytes),
-        pe + SIZE_OF_OPTIONAL_HEADER as u32,
-        PeKind::Optional,
+        fault(pe + SIZE_OF_OPTIONAL_HEADER as u32, PeKind::Optional),
     )?;
     check(
         is_driver(bytes),
-        pe + (OPTIONAL_HEADER + SUBSYSTEM) as u32,
-        PeKind::Subsystem,
+        fault(pe + (OPTIONAL_HEADER + SUBSYSTEM) as u32, PeKind::Subsystem),
     )?;
     check(
         size_fits(bytes),
-        pe + (OPTIONAL_HEADER + SIZE_OF_IMAGE) as u32,
-        PeKind::Size,
+        fault(pe + (OPTIONAL_HEADER + SIZE_OF_IMAGE) as u32, PeKind::Size),
     )?;
     check(
         headers_fit(bytes),
-        pe + (OPTIONAL_HEADER + SIZE_OF_HEADERS) as u32,
-        PeKind::Headers,
+        fault(
+            pe + (OPTIONAL_HEADER + SIZE_OF_HEADERS) as u32,
+            PeKind::Headers,
+        ),
     )
 }

@@ -6,19 +6,18 @@ ghost use Rattle.mm_base.specs.declared.image.PeFault.{PeFault as PeFaultValue};
 ghost use Rattle.pe_loader.specs.Headers.{FailsFirst};
 ghost use Rattle.pe_loader.specs.Sections.{part_at as part_told, checks};
 ghost use Rattle.pe_loader.specs.Images.{image_of as image_told, IsImage, IsImageOf, HasFault, HasBadRelocations, AreRead};
-ghost use Rattle.pe_loader.specs.Layout.{HasHeaders, IsLaidOut};
+ghost use Rattle.pe_loader.specs.LayoutInside.{HasHeaders, IsLaidOut};
 ghost use Rattle.pe_loader.specs.declared.fixup.Fixup.{Fixup as FixupValue};
 
-use crate::checking::check;
 use crate::fields::{ADDRESS_OF_ENTRY_POINT, IMAGE_BASE, RELOCATIONS_ADDRESS};
 use crate::header::{
     check_header, field, headers_size, image_size, machine, optional_at, part_count, relocs,
     table_at,
 };
+use crate::pe_fault::fault;
 use crate::relocations::relocs_pass;
 use crate::sections::{check_entry, check_sections, part_at};
-use crate::{Image, Part, PeFault, PeKind};
-use mm_base::number_at;
+use mm_base::{Image, Part, PeFault, PeKind, check, number_at};
 
 /// What the headers say.
 #[tactic(auto, unfolding(crate::specs::Images::image_of))]
@@ -61,8 +60,10 @@ fn check_relocs(bytes: &[u8]) -> Result<(), PeFault>
 {
     check(
         relocs_pass(bytes),
-        optional_at(bytes) as u32 + RELOCATIONS_ADDRESS as u32,
-        PeKind::Reloc,
+        fault(
+            optional_at(bytes) as u32 + RELOCATIONS_ADDRESS as u32,
+            PeKind::Reloc,
+        ),
     )
 }
 

@@ -1,7 +1,7 @@
-//! Images in the PE32+ format, as UEFI uses them: what one is made of, and its bytes where it is loaded.
+//! Floor: readers. It promises of any bytes the image in the PE32+ format that they are, as UEFI uses it, or the first fault, and
+//! of an image its bytes where it is loaded. It never takes memory.
 #![tactic(auto)]
 
-mod checking;
 mod cursor;
 mod fields;
 mod fixup;
@@ -12,6 +12,7 @@ mod inspect_tests;
 mod inspecting;
 pub mod laws;
 mod numbers;
+mod pe_fault;
 #[cfg(test)]
 mod place_tests;
 mod placing;

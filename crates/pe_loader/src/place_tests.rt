@@ -2,7 +2,8 @@
 use crate::inspect_tests::MOST_BYTES;
 use crate::samples::{Piece, RELOCATED, Sample, TWO_SECTIONS, filled, made, write};
 use crate::{Image, inspect, place};
-use std::alloc::{AllocError, Global};
+use mm_base::NoMemory;
+use std::alloc::Global;
 
 /// So many bytes that are copied to a place of the image, from one of the file.
 type Copied = (usize, usize, usize);
@@ -306,7 +307,7 @@ fn wanted(
     image: &Image,
     copies: &[Copied],
     piece: &Piece,
-) -> Result<Vec<u8>, AllocError> {
+) -> Result<Vec<u8>, NoMemory> {
     let mut out = filled(alloc, image.size as usize, 0)?;
     copy(out.as_mut_slice(), bytes, &(0, 0, image.headers as usize));
     for copied in copies {
@@ -323,7 +324,7 @@ fn is_placed(
     at: u64,
     copies: &[Copied],
     piece: &Piece,
-) -> Result<bool, AllocError> {
+) -> Result<bool, NoMemory> {
     if bytes.len() > MOST_BYTES {
         return Ok(false);
     }

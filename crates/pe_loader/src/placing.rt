@@ -6,17 +6,17 @@ ghost use Rattle.pe_loader.specs.Forms.{copies_to, plain_form};
 ghost use Rattle.pe_loader.specs.Fixups.{fixup_passes, fixups_from, AreFixups};
 ghost use Rattle.pe_loader.specs.Images.{IsImage, IsImageOf, AreRead};
 ghost use Rattle.pe_loader.specs.Loading.{fixed, loaded};
-ghost use Rattle.pe_loader.specs.Layout.{HasHeaders, IsLaidOut, HasCopy};
-ghost use Rattle.pe_loader.specs.Reading.{IsReady};
+ghost use Rattle.pe_loader.specs.LayoutInside.{HasHeaders, IsLaidOut, HasCopy};
+ghost use Rattle.pe_loader.specs.ReadingInside.{IsReady};
 ghost use Rattle.pe_loader.specs.declared.fixup.Fixup.{Fixup as FixupValue};
 
 use crate::cursor::Cursor;
 use crate::fixup::Fixup;
 use crate::header::{headers_size, part_count, table_at};
-use crate::relocations::{Bounds, head_at};
+use crate::relocations::{Bounds, HEAD_BYTES, head_at};
 use crate::sections::part_at;
 use crate::writing::put;
-use crate::{Image, Part};
+use mm_base::{Image, Part};
 
 /// Copies the headers, and makes all behind them 0; linear in the image.
 fn lay_headers(bytes: &[u8], out: &mut [u8])
@@ -93,12 +93,12 @@ fn apply_all(bytes: &[u8], difference: u64, out: &mut [u8])
     let bounds = Bounds::of(bytes);
     let mut at = bounds.directory.base as usize;
     while let Some(head) = head_at(bytes, &mut cursor, bounds.end, at) {
-        let count = (head.size as usize - 8) / 2;
+        let count = (head.size as usize - HEAD_BYTES) / 2;
         apply_entries(
             bytes,
             &mut cursor,
             head.page,
-            at + 8,
+            at + HEAD_BYTES,
             count,
             difference,
             out,

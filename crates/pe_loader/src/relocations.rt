@@ -6,8 +6,8 @@ ghost use Rattle.pe_loader.specs.Headers.{image_size as image_size_told, relocs_
 ghost use Rattle.pe_loader.specs.Forms.{plain_form};
 ghost use Rattle.pe_loader.specs.Fixups.{fixup_passes, fixups_from, block_at, is_block, block_passes as block_is_fit, directory_end, directory_fits};
 ghost use Rattle.pe_loader.specs.Images.{AreRead, AreRefused};
-ghost use Rattle.pe_loader.specs.Layout.{HasHeaders, IsLaidOut};
-ghost use Rattle.pe_loader.specs.Reading.{IsReady, AreBounds, IsHead};
+ghost use Rattle.pe_loader.specs.LayoutInside.{HasHeaders, IsLaidOut};
+ghost use Rattle.pe_loader.specs.ReadingInside.{IsReady, AreBounds, IsHead};
 
 use crate::cursor::Cursor;
 use crate::fixup::Fixup;
@@ -15,7 +15,7 @@ use crate::header::{image_size, relocs};
 use mm_base::Range;
 
 /// How many bytes a block's head has.
-const HEAD_BYTES: usize = 8;
+pub(crate) const HEAD_BYTES: usize = 8;
 
 /// The two numbers that a block begins with.
 #[derive(Clone, Copy, Debug, PartialEq, Eq)]

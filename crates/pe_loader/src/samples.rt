@@ -1,5 +1,6 @@
 //! Sample images, and bytes that differ from them.
-use std::alloc::{AllocError, Global};
+use mm_base::NoMemory;
+use std::alloc::Global;
 
 /// Bytes and the place that they are written to.
 pub(crate) type Piece = (usize, &'static [u8]);
@@ -105,7 +106,7 @@ pub(crate) fn write(bytes: &mut [u8], piece: &Piece) {
 }
 
 /// So many bytes of this value.
-pub(crate) fn filled(alloc: Global, count: usize, value: u8) -> Result<Vec<u8>, AllocError> {
+pub(crate) fn filled(alloc: Global, count: usize, value: u8) -> Result<Vec<u8>, NoMemory> {
     let mut bytes = Vec::new(alloc);
     for _ in 0..count {
         bytes.push(value)?;
@@ -119,7 +120,7 @@ pub(crate) fn made(
     sample: &Sample,
     length: usize,
     edits: &[Piece],
-) -> Result<Vec<u8>, AllocError> {
+) -> Result<Vec<u8>, NoMemory> {
     let mut bytes = filled(alloc, length, 0)?;
     for piece in sample.pieces {
         write(bytes.as_mut_slice(), piece);

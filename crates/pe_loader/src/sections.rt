@@ -4,19 +4,19 @@ ghost use Rattle.std.specs.List.{list_any};
 ghost use Rattle.mm_base.specs.Checks.{first_failing};
 ghost use Rattle.pe_loader.specs.Headers.{section_at as section_place, table_at as table_place, part_count as part_count_told, FailsFirst};
 ghost use Rattle.pe_loader.specs.Sections.{part_at as part_told, rights_of, range_of as range_told, lies_in as is_within, overlaps_first as shares_with_first, section_checks, holds_code as has_code_at, parts, entry_passes as entry_is_fit, entry_check};
-ghost use Rattle.pe_loader.specs.Layout.{HasHeaders, EndBefore, AreInOrder};
+ghost use Rattle.pe_loader.specs.LayoutInside.{HasHeaders, EndBefore, AreInOrder};
 
-use crate::checking::check;
 use crate::fields::{
     ADDRESS_OF_ENTRY_POINT, CHARACTERISTICS, POINTER_TO_RAW_DATA, SIZE_OF_RAW_DATA,
     VIRTUAL_ADDRESS, VIRTUAL_SIZE,
 };
 use crate::header::{
-    EBC, field, headers_size, image_size, machine, optional_at, part_count, section_at, table_at,
+    EBC, SECTION_HEADER_BYTES, field, headers_size, image_size, machine, optional_at, part_count,
+    section_at, table_at,
 };
 use crate::numbers::u32_at;
-use crate::{Part, PeFault, PeKind};
-use mm_base::Range;
+use crate::pe_fault::fault;
+use mm_base::{Part, PeFault, PeKind, Range, check};
 
 /// The bit of a section's characteristics that it may be executed, IMAGE_SCN_MEM_EXECUTE.
 const MEM_EXECUTE: u32 = 0x2000_0000;
@@ -53,7 +53,7 @@ pub(crate) fn part_at(bytes: &[u8], table: usize, k: u16) -> Part
     requires entry { section_place bytes.now k + 40 ≤ length bytes.now }
     ensures { result ≡ part_told bytes.now k }
 {
-    let entry = table + 40 * k as usize;
+    let entry = table + SECTION_HEADER_BYTES * k as usize;
     let raw_size = u32_at(bytes, entry + SIZE_OF_RAW_DATA);
     let virtual_size = u32_at(bytes, entry + VIRTUAL_SIZE);
     let length = if virtual_size == 0 {
@@ -143,7 +143,8 @@ pub(crate) fn check_sections(bytes: &[u8]) -> Result<(), PeFault>
     for k in 0..part_count(bytes) {
         let part = part_at(bytes, table, k);
         let passes = section_passes(bytes, &part, k, highest);
-        check(passes, section_at(bytes, k) as u32, PeKind::Section)?;
+        let at = section_at(bytes, k) as u32;
+        check(passes, fault(at, PeKind::Section))?;
         highest = highest.max(part.at + part.length);
     }
     Ok(())
@@ -194,8 +195,10 @@ pub(crate) fn check_entry(bytes: &[u8]) -> Result<(), PeFault>
 {
     check(
         entry_passes(bytes),
-        optional_at(bytes) as u32 + ADDRESS_OF_ENTRY_POINT as u32,
-        PeKind::Entry,
+        fault(
+            optional_at(bytes) as u32 + ADDRESS_OF_ENTRY_POINT as u32,
+            PeKind::Entry,
+        ),
     )
 }
 

@@ -1,4 +1,4 @@
-use Rattle.pe_loader.specs.Layout.{EndBefore}
+use Rattle.pe_loader.specs.LayoutInside.{EndBefore}
 use Rattle.pe_loader.proofs.cursor.ended_at.Given as goal
 
 abbrev pub invariant-loop-k : goal.invariant-loop-k

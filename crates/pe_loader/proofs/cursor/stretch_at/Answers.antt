@@ -1,5 +1,5 @@
 use Rattle.std.proofs.Common.{ℕ, true, sym, subst}
-use Rattle.pe_loader.specs.Reading.{IsStretch}
+use Rattle.pe_loader.specs.ReadingInside.{IsStretch}
 use Rattle.pe_loader.proofs.FormLemmas.{headers_stretch}
 use Rattle.pe_loader.proofs.cursor.stretch_at.Goals as goal
 

@@ -1,7 +1,7 @@
 use Rattle.std.proofs.Common.{◌<◌, ◌≤◌, ◌+◌, true, sym, ap, subst, arith}
 use Rattle.mm_base.specs.declared.image.Part.{Part}
 use Rattle.pe_loader.specs.Sections.{part_at}
-use Rattle.pe_loader.specs.Reading.{IsStretch, CopyNothing}
+use Rattle.pe_loader.specs.ReadingInside.{IsStretch, CopyNothing}
 use Rattle.pe_loader.proofs.FormLemmas.{ended_copy_nothing, rest_copies_nothing, zero_stretch, part_stretch}
 use Rattle.pe_loader.proofs.cursor.stretch_behind.Goals as goal
 

@@ -1,5 +1,5 @@
 use Rattle.std.proofs.Common.{◌<◌}
-use Rattle.pe_loader.specs.Reading.{CopyNothing}
+use Rattle.pe_loader.specs.ReadingInside.{CopyNothing}
 use Rattle.pe_loader.proofs.cursor.stretch_behind.Given as goal
 
 abbrev pub invariant-loop-k : goal.invariant-loop-k

@@ -1,6 +1,6 @@
 use Rattle.std.proofs.Common.{◌≡◌, ◌-◌, ◌≤◌, true}
 use Rattle.pe_loader.specs.Fixups.{directory_end, directory_fits}
-use Rattle.pe_loader.specs.Reading.{IsReady}
+use Rattle.pe_loader.specs.ReadingInside.{IsReady}
 use Rattle.pe_loader.proofs.LoadLemmas.{Rest}
 use Rattle.pe_loader.proofs.placing.apply_all.Given as goal
 

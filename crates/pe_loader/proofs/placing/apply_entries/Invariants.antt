@@ -4,7 +4,7 @@ use Rattle.pe_loader.specs.Headers.{image_size, relocs_of}
 use Rattle.pe_loader.specs.Forms.{plain_form}
 use Rattle.pe_loader.specs.Fixups.{fixup_passes, fixups_from}
 use Rattle.pe_loader.specs.Loading.{fixed}
-use Rattle.pe_loader.specs.Reading.{IsReady}
+use Rattle.pe_loader.specs.ReadingInside.{IsReady}
 use Rattle.pe_loader.proofs.placing.apply_entries.Given as goal
 
 abbrev pub invariant-loop-k : goal.invariant-loop-k

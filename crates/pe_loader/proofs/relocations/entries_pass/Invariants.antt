@@ -3,7 +3,7 @@ use Rattle.std.specs.List.{list_all}
 use Rattle.pe_loader.specs.Headers.{image_size, relocs_of}
 use Rattle.pe_loader.specs.Forms.{plain_form}
 use Rattle.pe_loader.specs.Fixups.{fixup_passes, fixups_from}
-use Rattle.pe_loader.specs.Reading.{IsReady}
+use Rattle.pe_loader.specs.ReadingInside.{IsReady}
 use Rattle.pe_loader.proofs.relocations.entries_pass.Given as goal
 
 abbrev pub invariant-loop-k : goal.invariant-loop-k

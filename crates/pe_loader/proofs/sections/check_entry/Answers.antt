@@ -6,4 +6,4 @@ use Rattle.pe_loader.proofs.sections.check_entry.Goals as goal
 
 pub returns-clause-fault : goal.returns-clause-fault
 returns-clause-fault c =
-    IfErr-weaker _ _ _ (λ fault e. fails (entry_check c.args.bytes.now ∷ []) fault 0 (c.optional_at.result + 16) (lit< tt) tt (sym c.entry_passes.ensures ∙ e.0) e.1 (omega arith)) c.check.ensures.fault
+    IfErr-weaker _ _ _ (λ fault e. fails (entry_check c.args.bytes.now ∷ []) fault 0 (c.optional_at.result + 16) (lit< tt) tt (sym c.entry_passes.ensures ∙ e.0) (e.1 ∙ c.fault.ensures) (omega arith)) c.check.ensures.fault

@@ -12,7 +12,7 @@ returns-in_err-check-clause-fault c =
     let e = c.in_err-check.ensures.fault in
     let fails = ap (λ (part : Part). lies_in bytes part && not (overlaps_first bytes part k)) (sym c.part_at-part.ensures) ∙ sym c.section_passes-passes.ensures ∙ e.0 in
     let known : FailsFirst (section_checks bytes) c.in_err-check.field-0.0 =
-    section_fails bytes _ k _ (omega arith) c.loop-k.invariant.passed fails e.1 c.section_at.ensures in
+    section_fails bytes _ k _ (omega arith) c.loop-k.invariant.passed fails (e.1 ∙ c.fault.ensures) c.section_at-at.ensures in
     search rules
 
 pub loop-k-preserved : goal.loop-k-preserved

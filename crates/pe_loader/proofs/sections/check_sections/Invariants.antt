@@ -1,6 +1,6 @@
 use Rattle.std.proofs.Common.{◌≡◌, ℕ, ◌<◌, true}
 use Rattle.pe_loader.specs.Sections.{section_check}
-use Rattle.pe_loader.specs.Layout.{EndBefore}
+use Rattle.pe_loader.specs.LayoutInside.{EndBefore}
 use Rattle.pe_loader.proofs.sections.check_sections.Given as goal
 
 abbrev pub invariant-loop-k : goal.invariant-loop-k

@@ -1,3 +1,4 @@
+-- No public clause cites this file.
 -- What headers and sections that pass their checks say, as plain facts.
 use Rattle.std.specs.Prelude.{◌≡◌, ◌⊎◌, ℕ, ◌+◌, ◌*◌, ◌≤◌, ◌<◌, false, List, length}
 use Rattle.mm_base.specs.Range.{share_a_unit}

@@ -1,9 +1,10 @@
+-- No public clause cites this file.
 -- How the plain form is read from its front on, without memory of its own.
 use Rattle.std.specs.Prelude.{◌≡◌, ℕ, ◌+◌, ◌-◌, ◌≤◌, ◌<◌, true, false, if◌then◌else◌, List, length, slice_index}
 use Rattle.pe_loader.specs.Headers.{part_count, image_size, relocs_of}
 use Rattle.pe_loader.specs.Sections.{part_at}
 use Rattle.pe_loader.specs.Forms.{copies_to, plain_byte}
-use Rattle.pe_loader.specs.Layout.{EndBefore, AreInOrder}
+use Rattle.pe_loader.specs.LayoutInside.{EndBefore, AreInOrder}
 use Rattle.pe_loader.specs.Fixups.{block_at, is_block, directory_end}
 use Rattle.pe_loader.specs.declared.relocations.Bounds.{Bounds}
 use Rattle.pe_loader.specs.declared.relocations.Head.{Head}
