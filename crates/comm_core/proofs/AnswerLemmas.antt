@@ -8,7 +8,7 @@ use Rattle.mm_base.specs.Numbers.{number_of, first_words, words_for, word_in, wo
 use Rattle.mm_base.specs.declared.receipt.Receipt.{Receipt}
 use Rattle.comm_core.specs.Piece.{store, from_word, answer}
 use Rattle.comm_core.specs.declared.action.Action.TheVariants.{Store}
-use Rattle.comm_core.proofs.PieceLemmas.{slice_get-front, slice_get-behind}
+use Rattle.comm_core.proofs.PieceLemmas.{slice_get-front, slice_get-after}
 
 pub length-first_words : (n : ℕ) (bytes : List ℕ) → length (first_words n bytes) ≡ n
 length-first_words zero bytes = refl
@@ -25,9 +25,12 @@ length-from_word : (word : ℕ) (values : List ℕ) → length (from_word word v
 length-from_word word [] = refl
 length-from_word word (value ∷ values) = ap suc (length-from_word (word + 1) values)
 
-slice_get-from_word : (word : ℕ) (values : List ℕ) (i value : ℕ) → slice_get values i ≡ Some value → slice_get (from_word word values) i ≡ Some (word + i, value)
+slice_get-from_word : (word : ℕ) (values : List ℕ) (i value : ℕ)
+    → slice_get values i ≡ Some value
+    → slice_get (from_word word values) i ≡ Some (word + i, value)
 slice_get-from_word word [] i value h = cc
-slice_get-from_word word (v ∷ values) zero value h = let e : v ≡ value = cc in ap (λ w. Some (w, v)) (omega arith) ∙ ap (λ x. Some (word + 0, x)) e
+slice_get-from_word word (v ∷ values) zero value h =
+    let e : v ≡ value = cc in ap (λ w. Some (w, v)) (omega arith) ∙ ap (λ x. Some (word + 0, x)) e
 slice_get-from_word word (v ∷ values) (suc i) value h =
     slice_get-from_word (word + 1) values i value h ∙ ap (λ w. Some (w, value)) (omega arith)
 
@@ -38,51 +41,61 @@ reply receipt = from_word 2 (words_of_bytes receipt.bytes) ++ (0, length receipt
 abbrev front : Receipt → List (ℕ × ℕ)
 front receipt = if receipt.dispatched then reply receipt else []
 
-answer-dispatched : (receipt : Receipt) → receipt.dispatched ≡ true → answer receipt ≡ reply receipt ++ (1, receipt.status) ∷ []
-answer-dispatched receipt d = ap (λ b. (if b then reply receipt else []) ++ (1, receipt.status) ∷ []) d
+module _ (receipt : Receipt) where
+  answer-dispatched : receipt.dispatched ≡ true → answer receipt ≡ reply receipt ++ (1, receipt.status) ∷ []
+  answer-dispatched d = ap (λ b. (if b then reply receipt else []) ++ (1, receipt.status) ∷ []) d
 
-answer-refused : (receipt : Receipt) → receipt.dispatched ≡ false → answer receipt ≡ (1, receipt.status) ∷ []
-answer-refused receipt d = ap (λ b. (if b then reply receipt else []) ++ (1, receipt.status) ∷ []) d
+  answer-refused : receipt.dispatched ≡ false → answer receipt ≡ (1, receipt.status) ∷ []
+  answer-refused d = ap (λ b. (if b then reply receipt else []) ++ (1, receipt.status) ∷ []) d
 
-length-words : (receipt : Receipt) → length (from_word 2 (words_of_bytes receipt.bytes)) ≡ words_for (length receipt.bytes)
-length-words receipt = length-from_word 2 (words_of_bytes receipt.bytes) ∙ length-first_words (words_for (length receipt.bytes)) receipt.bytes
+  length-words : length (from_word 2 (words_of_bytes receipt.bytes)) ≡ words_for (length receipt.bytes)
+  length-words = length-from_word 2 (words_of_bytes receipt.bytes) ∙ length-first_words (words_for (length receipt.bytes)) receipt.bytes
 
--- how many stores there are
-pub length-answer_dispatched : (receipt : Receipt) → receipt.dispatched ≡ true → length (answer receipt) ≡ words_for (length receipt.bytes) + 2
-length-answer_dispatched receipt d =
-    ap length (answer-dispatched receipt d) ∙ length-append (reply receipt) ((1, receipt.status) ∷ [])
-    ∙ ap (λ n. n + 1) (length-append (from_word 2 (words_of_bytes receipt.bytes)) ((0, length receipt.bytes) ∷ []) ∙ ap (λ n. n + 1) (length-words receipt))
-    ∙ omega arith
+  -- how many stores there are
+  pub length-answer_dispatched : receipt.dispatched ≡ true → length (answer receipt) ≡ words_for (length receipt.bytes) + 2
+  length-answer_dispatched d =
+      ap length (answer-dispatched d) ∙ length-append (reply receipt) ((1, receipt.status) ∷ [])
+      ∙ ap (λ n. n + 1)
+      (length-append (from_word 2 (words_of_bytes receipt.bytes)) ((0, length receipt.bytes) ∷ []) ∙ ap (λ n. n + 1) (length-words))
+      ∙ omega arith
 
-pub length-answer_refused : (receipt : Receipt) → receipt.dispatched ≡ false → length (answer receipt) ≡ 1
-length-answer_refused receipt d = ap length (answer-refused receipt d)
+  pub length-answer_refused : receipt.dispatched ≡ false → length (answer receipt) ≡ 1
+  length-answer_refused d = ap length (answer-refused d)
 
--- a store, by its pair
-stored_at : (receipt : Receipt) (i : ℕ) (to : ℕ × ℕ) → slice_get (answer receipt) i ≡ Some to → slice_get (map store (answer receipt)) i ≡ Some (store to)
-stored_at receipt i to h = slice_get-map store (answer receipt) i ∙ ap (option_map store) h
+  -- a store, by its pair
+  stored_at : (i : ℕ) (to : ℕ × ℕ) → slice_get (answer receipt) i ≡ Some to → slice_get (map store (answer receipt)) i ≡ Some (store to)
+  stored_at i to h = slice_get-map store (answer receipt) i ∙ ap (option_map store) h
 
--- the reply's words
-pub answer-word : (receipt : Receipt) (i : ℕ) → receipt.dispatched ≡ true → i < words_for (length receipt.bytes) → slice_get (map store (answer receipt)) i ≡ Some (Store (2 + i) (word_in receipt.bytes i))
-answer-word receipt i d h =
-    let ws : List (ℕ × ℕ) = from_word 2 (words_of_bytes receipt.bytes) in
-    stored_at receipt i (2 + i, word_in receipt.bytes i)
-    (ap (λ s. slice_get s i) (answer-dispatched receipt d)
-    ∙ slice_get-front (reply receipt) ((1, receipt.status) ∷ []) i (rw (length-append ws ((0, length receipt.bytes) ∷ []), length-words receipt) (omega arith))
-    ∙ slice_get-front ws ((0, length receipt.bytes) ∷ []) i (rw (length-words receipt) h)
-    ∙ slice_get-from_word 2 (words_of_bytes receipt.bytes) i (word_in receipt.bytes i) (slice_get-first_words (words_for (length receipt.bytes)) i receipt.bytes h))
+  -- the reply's words
+  pub answer-word : (i : ℕ)
+      → receipt.dispatched ≡ true
+      → i < words_for (length receipt.bytes)
+      → slice_get (map store (answer receipt)) i ≡ Some (Store (2 + i) (word_in receipt.bytes i))
+  answer-word i d h =
+      let ws : List (ℕ × ℕ) = from_word 2 (words_of_bytes receipt.bytes) in
+      stored_at i (2 + i, word_in receipt.bytes i)
+      (ap (λ s. slice_get s i) (answer-dispatched d)
+      ∙ slice_get-front (reply receipt) ((1, receipt.status) ∷ []) i
+      (rw (length-append ws ((0, length receipt.bytes) ∷ []), length-words) (omega arith))
+      ∙ slice_get-front ws ((0, length receipt.bytes) ∷ []) i (rw (length-words) h)
+      ∙ slice_get-from_word 2 (words_of_bytes receipt.bytes) i (word_in receipt.bytes i)
+      (slice_get-first_words (words_for (length receipt.bytes)) i receipt.bytes h))
 
--- the reply's length
-pub answer-length : (receipt : Receipt) → receipt.dispatched ≡ true → slice_get (map store (answer receipt)) (words_for (length receipt.bytes)) ≡ Some (Store 0 (length receipt.bytes))
-answer-length receipt d =
-    let ws : List (ℕ × ℕ) = from_word 2 (words_of_bytes receipt.bytes) in
-    let n : ℕ = words_for (length receipt.bytes) in
-    stored_at receipt n (0, length receipt.bytes)
-    (ap (λ s. slice_get s n) (answer-dispatched receipt d)
-    ∙ slice_get-front (reply receipt) ((1, receipt.status) ∷ []) n (rw (length-append ws ((0, length receipt.bytes) ∷ []), length-words receipt) (omega arith))
-    ∙ slice_get-behind ws ((0, length receipt.bytes) ∷ []) n 0 (rw (length-words receipt) (omega arith)))
+  -- the reply's length
+  pub answer-length : receipt.dispatched ≡ true
+      → slice_get (map store (answer receipt)) (words_for (length receipt.bytes)) ≡ Some (Store 0 (length receipt.bytes))
+  answer-length d =
+      let ws : List (ℕ × ℕ) = from_word 2 (words_of_bytes receipt.bytes) in
+      let n : ℕ = words_for (length receipt.bytes) in
+      stored_at n (0, length receipt.bytes)
+      (ap (λ s. slice_get s n) (answer-dispatched d)
+      ∙ slice_get-front (reply receipt) ((1, receipt.status) ∷ []) n
+      (rw (length-append ws ((0, length receipt.bytes) ∷ []), length-words) (omega arith))
+      ∙ slice_get-after ws ((0, length receipt.bytes) ∷ []) n 0 (rw (length-words) (omega arith)))
 
--- the status, last
-pub answer-status : (receipt : Receipt) (i : ℕ) → i + 1 ≡ length (answer receipt) → slice_get (map store (answer receipt)) i ≡ Some (Store 1 receipt.status)
-answer-status receipt i h =
-    stored_at receipt i (1, receipt.status)
-    (slice_get-behind (front receipt) ((1, receipt.status) ∷ []) i 0 (omega (arith, h, length-append (front receipt) ((1, receipt.status) ∷ []))))
+  -- the status, last
+  pub answer-status : (i : ℕ) → i + 1 ≡ length (answer receipt) → slice_get (map store (answer receipt)) i ≡ Some (Store 1 receipt.status)
+  answer-status i h =
+      stored_at i (1, receipt.status)
+      (slice_get-after (front receipt) ((1, receipt.status) ∷ []) i 0
+      (omega (arith, h, length-append (front receipt) ((1, receipt.status) ∷ []))))

@@ -13,7 +13,7 @@ use Rattle.mm_base.specs.declared.entry.Entry.{Entry}
 use Rattle.mm_base.specs.declared.entry.Outcome.{Outcome}
 use Rattle.mm_base.specs.declared.entry.Request.{Request}
 use Rattle.comm_core.specs.Piece.{needed, store, answer, whole, loaded, length_in, turn_in, receipt_at, request_in}
-use Rattle.comm_core.specs.Capture.{Mark, Rung, Did, trace_of, value_at, last_saved, joined, pieces, marks_of, pieces_in, newest, requests, outcomes_of, rests, made, act, acts, longest, happens, behind, course}
+use Rattle.comm_core.specs.Capture.{Mark, Rung, Did, trace_of, value_at, last_saved, joined, pieces, marks_of, pieces_in, newest, requests, outcomes_of, rests, made, act, acts, longest, happens, after_events, course}
 use Rattle.mm_history.specs.History.{requests_of}
 use Rattle.comm_core.specs.Headline.{TellsTrue, turns_in, numbered, outcomes_in, WasCapturedOnce, Headline}
 use Rattle.comm_core.specs.Laws.{Begins, LoadsOnce, IsServed, action_of}
@@ -33,14 +33,16 @@ use Rattle.comm_core.proofs.StandingLemmas.{next_of_place, pieces-loaded_length,
 
 -- a trace tells what its past does
 marks_of-snoc : (trace : List Trace) (record_made : Trace) → marks_of (trace ++ record_made ∷ []) ≡ Did record_made ∷ marks_of trace
-marks_of-snoc trace record_made = ap reverse (map-append Did trace (record_made ∷ [])) ∙ reverse-append (map Did trace) (Did record_made ∷ [])
+marks_of-snoc trace record_made =
+    ap reverse (map-append Did trace (record_made ∷ [])) ∙ reverse-append (map Did trace) (Did record_made ∷ [])
 
 pub pieces_told : (lane : ℕ) (past : List Mark) → pieces_in lane (trace_of past) ≡ pieces lane past
 pieces_told lane [] = refl
 pieces_told lane (Rung l saved ∷ past) = pieces_told lane past
 pieces_told lane (Did (Loaded l word value) ∷ past) =
     ap (pieces lane) (marks_of-snoc (trace_of past) (Loaded l word value))
-    ∙ ap (λ ps. if l == lane then (if word == 0 then (Loaded l word value ∷ []) ∷ ps else joined (Loaded l word value) ps) else ps) (pieces_told lane past)
+    ∙ ap (λ ps. if l == lane then (if word == 0 then (Loaded l word value ∷ []) ∷ ps else joined (Loaded l word value) ps) else ps)
+    (pieces_told lane past)
 pieces_told lane (Did (Stored l word value) ∷ past) =
     ap (pieces lane) (marks_of-snoc (trace_of past) (Stored l word value))
     ∙ ap (λ ps. if l == lane then joined (Stored l word value) ps else ps) (pieces_told lane past)
@@ -96,11 +98,17 @@ record Entered (ps : List (List Trace)) (position : ℕ) (request : Request) : T
   request_is : request ≡ request_in request.lane request.saved piece
 
 -- a new piece in front
-entered_new : (piece : List Trace) (ps : List (List Trace)) (position : ℕ) (request : Request) → Entered ps position request → Entered (piece ∷ ps) position request
-entered_new piece ps position request e = record { place = suc e.place; piece = e.piece; there = e.there; turn = e.turn; request_is = e.request_is }
+entered_new : (piece : List Trace) (ps : List (List Trace)) (position : ℕ) (request : Request)
+    → Entered ps position request
+    → Entered (piece ∷ ps) position request
+entered_new piece ps position request e =
+    record { place = suc e.place; piece = e.piece; there = e.there; turn = e.turn; request_is = e.request_is }
 
 -- the newest piece, which has no turn yet, in another form
-entered_under : (p q : List Trace) (older : List (List Trace)) (position : ℕ) (request : Request) → turn_in p ≡ None → Entered (p ∷ older) position request → Entered (q ∷ older) position request
+entered_under : (p q : List Trace) (older : List (List Trace)) (position : ℕ) (request : Request)
+    → turn_in p ≡ None
+    → Entered (p ∷ older) position request
+    → Entered (q ∷ older) position request
 entered_under p q older position request none e = by e.place e.there
   where
     by : (place : ℕ) → slice_get (p ∷ older) place ≡ Some e.piece → Entered (q ∷ older) position request
@@ -109,7 +117,7 @@ entered_under p q older position request none e = by e.place e.there
         absurd (none-some position (sym none ∙ ap turn_in same ∙ e.turn))
     by (suc k) there = record { place = suc k; piece = e.piece; there = there; turn = e.turn; request_is = e.request_is }
 
--- what a store behind a piece leaves
+-- what a store after a piece leaves
 turn_in-stored : (piece : List Trace) (lane word value : ℕ) → turn_in (piece ++ Stored lane word value ∷ []) ≡ turn_in piece
 turn_in-stored [] lane word value = refl
 turn_in-stored (Loaded l w v ∷ piece) lane word value = turn_in-stored piece lane word value
@@ -124,8 +132,10 @@ loaded-stored (Stored l w v ∷ piece) lane word value = loaded-stored piece lan
 loaded-stored (Poked l w v ∷ piece) lane word value = loaded-stored piece lane word value
 loaded-stored (Turned l position ∷ piece) lane word value = loaded-stored piece lane word value
 
--- what a turn behind a piece leaves
-turn_in-turned : (piece : List Trace) (lane position : ℕ) → turn_in piece ≡ None → turn_in (piece ++ Turned lane position ∷ []) ≡ Some position
+-- what a turn after a piece leaves
+turn_in-turned : (piece : List Trace) (lane position : ℕ)
+    → turn_in piece ≡ None
+    → turn_in (piece ++ Turned lane position ∷ []) ≡ Some position
 turn_in-turned [] lane position none = refl
 turn_in-turned (Loaded l w v ∷ piece) lane position none = turn_in-turned piece lane position none
 turn_in-turned (Stored l w v ∷ piece) lane position none = turn_in-turned piece lane position none
@@ -150,8 +160,10 @@ request_in-same lane saved p q e =
     } in
     ap of e
 
--- a store behind the newest piece
-entered_stored : (p : List Trace) (older : List (List Trace)) (lane word value position : ℕ) (request : Request) → Entered (p ∷ older) position request → Entered ((p ++ Stored lane word value ∷ []) ∷ older) position request
+-- a store after the newest piece
+entered_stored : (p : List Trace) (older : List (List Trace)) (lane word value position : ℕ) (request : Request)
+    → Entered (p ∷ older) position request
+    → Entered ((p ++ Stored lane word value ∷ []) ∷ older) position request
 entered_stored p older lane word value position request e = by e.place e.there
   where
     q : List Trace
@@ -165,12 +177,15 @@ entered_stored p older lane word value position request e = by e.place e.there
           piece = q;
           there = refl;
           turn = turn_in-stored p lane word value ∙ ap turn_in same ∙ e.turn;
-          request_is = e.request_is ∙ request_in-same request.lane request.saved e.piece q (sym (loaded-stored p lane word value ∙ ap loaded same));
+          request_is =
+              e.request_is ∙ request_in-same request.lane request.saved e.piece q (sym (loaded-stored p lane word value ∙ ap loaded same));
         }
     by (suc k) there = record { place = suc k; piece = e.piece; there = there; turn = e.turn; request_is = e.request_is }
 
--- a turn behind the newest piece, which makes its entry
-entered_turned : (p : List Trace) (older : List (List Trace)) (lane position : ℕ) (saved : Saved) → turn_in p ≡ None → Entered ((p ++ Turned lane position ∷ []) ∷ older) position (request_in lane saved p)
+-- a turn after the newest piece, which makes its entry
+entered_turned : (p : List Trace) (older : List (List Trace)) (lane position : ℕ) (saved : Saved)
+    → turn_in p ≡ None
+    → Entered ((p ++ Turned lane position ∷ []) ∷ older) position (request_in lane saved p)
 entered_turned p older lane position saved none = record {
   place = 0;
   piece = p ++ Turned lane position ∷ [];
@@ -181,10 +196,16 @@ entered_turned p older lane position saved none = record {
 
 -- every entry is entered
 abbrev AllEntered : List Mark → Type 0
-AllEntered past = (position : ℕ) (request : Request) → slice_get (requests past) position ≡ Some request → Entered (pieces request.lane past) position request
+AllEntered past =
+    (position : ℕ) (request : Request) → slice_get (requests past) position ≡ Some request
+    → Entered (pieces request.lane past) position request
 
 -- what a lane does leaves the pieces of the others
-entered_any : (l : ℕ) (past now : List Mark) (position : ℕ) (request : Request) → (Entered (pieces l past) position request → Entered (pieces l now) position request) → ((lane : ℕ) → (l ≡ lane → ⊥) → pieces lane now ≡ pieces lane past) → Entered (pieces request.lane past) position request → Entered (pieces request.lane now) position request
+entered_any : (l : ℕ) (past now : List Mark) (position : ℕ) (request : Request)
+    → (Entered (pieces l past) position request → Entered (pieces l now) position request)
+    → ((lane : ℕ) → (l ≡ lane → ⊥) → pieces lane now ≡ pieces lane past)
+    → Entered (pieces request.lane past) position request
+    → Entered (pieces request.lane now) position request
 entered_any l past now position request own other e =
     elim (l == request.lane) as (λ b. (l == request.lane) ≡ b → Entered (pieces request.lane now) position request) [
       | true ↦ λ h.
@@ -205,125 +226,113 @@ record Tells (past : List Mark) : Type 0 where
   entered : AllEntered past
 
 -- a record that is no turn leaves the turns
-no_turn : (past : List Mark) (t : Trace) → turns_in (t ∷ []) ≡ [] → turns_in (trace_of past) ≡ numbered 0 (requests past) → turns_in (trace_of past ++ t ∷ []) ≡ numbered 0 (requests past)
-no_turn past t none e = turns_in-append (trace_of past) (t ∷ []) ∙ ap (λ more. turns_in (trace_of past) ++ more) none ∙ append-nil (turns_in (trace_of past)) ∙ e
+no_turn : (past : List Mark) (t : Trace)
+    → turns_in (t ∷ []) ≡ []
+    → turns_in (trace_of past) ≡ numbered 0 (requests past)
+    → turns_in (trace_of past ++ t ∷ []) ≡ numbered 0 (requests past)
+no_turn past t none e =
+    turns_in-append (trace_of past) (t ∷ []) ∙ ap (λ more. turns_in (trace_of past) ++ more) none ∙ append-nil (turns_in (trace_of past))
+    ∙ e
 
--- the load of the length
-tells_length : (l value : ℕ) (past : List Mark) → value ≡ value_at l 0 past → Tells past → Tells (Did (Loaded l 0 value) ∷ past)
-tells_length l value past is t =
-    let now : List Mark = Did (Loaded l 0 value) ∷ past in
-    record {
-      loads = (is, t.loads);
-      turns = no_turn past (Loaded l 0 value) refl t.turns;
-      entered = λ position request h.
-          entered_any l past now position request
-          (λ e.
-          let P : List (List Trace) → Type 0 = λ ps. Entered ps position request in
-          subst P (sym (pieces-loaded_length l value past)) (entered_new (Loaded l 0 value ∷ []) (pieces l past) position request e))
-          (λ lane other. elsewhere l lane _ _ other) (t.entered position request h);
-    }
+module _ (l : ℕ) where
+  -- the load of the length
+  tells_length : (value : ℕ) (past : List Mark) → value ≡ value_at l 0 past → Tells past → Tells (Did (Loaded l 0 value) ∷ past)
+  tells_length value past is t =
+      let now : List Mark = Did (Loaded l 0 value) ∷ past in
+      record {
+        loads = (is, t.loads);
+        turns = no_turn past (Loaded l 0 value) refl t.turns;
+        entered = λ position request h.
+            entered_any l past now position request
+            (λ e.
+            let P : List (List Trace) → Type 0 = λ ps. Entered ps position request in
+            subst P (sym (pieces-loaded_length l value past)) (entered_new (Loaded l 0 value ∷ []) (pieces l past) position request e))
+            (λ lane other. elsewhere l lane _ _ other) (t.entered position request h);
+      }
 
--- the load of a data word, where the newest piece has no turn yet
-tells_word : (l word value : ℕ) (past : List Mark) (p : List Trace) (older : List (List Trace)) → (word ≡ 0 → ⊥) → pieces l past ≡ p ∷ older → turn_in p ≡ None → value ≡ value_at l word past → Tells past → Tells (Did (Loaded l word value) ∷ past)
-tells_word l word value past p older some split none is t =
-    let now : List Mark = Did (Loaded l word value) ∷ past in
-    let made_one : Trace = Loaded l word value in
-    let grown : pieces l now ≡ (p ++ made_one ∷ []) ∷ older = pieces-loaded l word value past some ∙ ap (joined made_one) split in
-    record {
-      loads = (is, t.loads);
-      turns = no_turn past made_one refl t.turns;
-      entered = λ position request h.
-          entered_any l past now position request
-          (λ e.
-          let P : List (List Trace) → Type 0 = λ ps. Entered ps position request in
-          subst P (sym grown) (entered_under p (p ++ made_one ∷ []) older position request none (subst P split e)))
-          (λ lane other. elsewhere l lane _ _ other) (t.entered position request h);
-    }
+  -- the load of a data word, where the newest piece has no turn yet
+  tells_word : (word value : ℕ) (past : List Mark) (p : List Trace) (older : List (List Trace))
+      → (word ≡ 0 → ⊥)
+      → pieces l past ≡ p ∷ older
+      → turn_in p ≡ None
+      → value ≡ value_at l word past
+      → Tells past
+      → Tells (Did (Loaded l word value) ∷ past)
+  tells_word word value past p older some split none is t =
+      let now : List Mark = Did (Loaded l word value) ∷ past in
+      let made_one : Trace = Loaded l word value in
+      let grown : pieces l now ≡ (p ++ made_one ∷ []) ∷ older = pieces-loaded l word value past some ∙ ap (joined made_one) split in
+      record {
+        loads = (is, t.loads);
+        turns = no_turn past made_one refl t.turns;
+        entered = λ position request h.
+            entered_any l past now position request
+            (λ e.
+            let P : List (List Trace) → Type 0 = λ ps. Entered ps position request in
+            subst P (sym grown) (entered_under p (p ++ made_one ∷ []) older position request none (subst P split e)))
+            (λ lane other. elsewhere l lane _ _ other) (t.entered position request h);
+      }
 
--- a store
-tells_store : (l word value : ℕ) (past : List Mark) (p : List Trace) (older : List (List Trace)) → pieces l past ≡ p ∷ older → Tells past → Tells (Did (Stored l word value) ∷ past)
-tells_store l word value past p older split t =
-    let now : List Mark = Did (Stored l word value) ∷ past in
-    let grown : pieces l now ≡ (p ++ Stored l word value ∷ []) ∷ older = pieces-stored l word value past ∙ ap (joined (Stored l word value)) split in
-    record {
-      loads = t.loads;
-      turns = no_turn past (Stored l word value) refl t.turns;
-      entered = λ position request h.
-          entered_any l past now position request
-          (λ e.
-          let P : List (List Trace) → Type 0 = λ ps. Entered ps position request in
-          subst P (sym grown) (entered_stored p older l word value position request (subst P split e)))
-          (λ lane other. elsewhere l lane _ _ other) (t.entered position request h);
-    }
+  -- a store
+  tells_store : (word value : ℕ) (past : List Mark) (p : List Trace) (older : List (List Trace))
+      → pieces l past ≡ p ∷ older
+      → Tells past
+      → Tells (Did (Stored l word value) ∷ past)
+  tells_store word value past p older split t =
+      let now : List Mark = Did (Stored l word value) ∷ past in
+      let grown : pieces l now ≡ (p ++ Stored l word value ∷ []) ∷ older =
+      pieces-stored l word value past ∙ ap (joined (Stored l word value)) split in
+      record {
+        loads = t.loads;
+        turns = no_turn past (Stored l word value) refl t.turns;
+        entered = λ position request h.
+            entered_any l past now position request
+            (λ e.
+            let P : List (List Trace) → Type 0 = λ ps. Entered ps position request in
+            subst P (sym grown) (entered_stored p older l word value position request (subst P split e)))
+            (λ lane other. elsewhere l lane _ _ other) (t.entered position request h);
+      }
 
--- the turn, which makes an entry
-tells_turn : (l : ℕ) (past : List Mark) (p : List Trace) (older : List (List Trace)) → pieces l past ≡ p ∷ older → turn_in p ≡ None → Tells past → Tells (Did (Turned l (length (requests past))) ∷ past)
-tells_turn l past p older split none t =
-    let n : ℕ = length (requests past) in
-    let now : List Mark = Did (Turned l n) ∷ past in
-    let made_one : Trace = Turned l n in
-    let saved : Saved = last_saved l past in
-    let asked : Request = request_in l saved (newest (pieces l past)) in
-    let grown : pieces l now ≡ (p ++ made_one ∷ []) ∷ older = pieces-turned l n past ∙ ap (joined made_one) split in
-    let newest_is : newest (pieces l past) ≡ p = ap newest split in
-    record {
-      loads = t.loads;
-      turns =
-          turns_in-append (trace_of past) (made_one ∷ []) ∙ ap (λ turns. turns ++ (l, n) ∷ []) t.turns ∙ ap (λ k. numbered 0 (requests past) ++ (l, k) ∷ []) (omega arith)
-          ∙ sym (numbered-snoc 0 (requests past) asked);
-      entered = λ position request h.
-          last_or_front (requests past) asked request position (Entered (pieces request.lane now) position request) h
-          (λ front.
-          entered_any l past now position request
-          (λ e.
-          let P : List (List Trace) → Type 0 = λ ps. Entered ps position request in
-          subst P (sym grown) (entered_under p (p ++ made_one ∷ []) older position request none (subst P split e)))
-          (λ lane other. elsewhere l lane _ _ other) (t.entered position request front))
-          (λ at is.
-          let P : List (List Trace) → Type 0 = λ ps. Entered ps n (request_in l saved p) in
-          let Q : Request → Type 0 = λ r. Entered (pieces r.lane now) position r in
-          let R : ℕ → Type 0 = λ k. Entered (pieces l now) k asked in
-          let S : List Trace → Type 0 = λ q. Entered (pieces l now) n (request_in l saved q) in
-          subst Q is (subst R (sym at) (subst S (sym newest_is) (subst P (sym grown) (entered_turned p older l n saved none)))));
-    }
-
--- the lane's next action at its place
-tells_next : {M : Type 0} (step : M → Request → Outcome × M) (m : M) (words l : ℕ) (past : List Mark) (place : Place) → StandsIn words (outcomes_of step m past) l past place → Tells past → Tells (made l (next_at words place) past)
-tells_next step m words l past AtRest s t = t
-tells_next step m words l past Called s t = tells_length l (value_at l 0 past) past refl t
-tells_next step m words l past (Capturing len values) s t =
-    elim (nat_lt (length values) (needed words len)) as (λ b. Tells (made l (if b then Load (2 + length values) else Turn) past)) [
-      | true ↦
-          tells_word l (2 + length values) (value_at l (2 + length values) past) past (captured l len values) s.0.older (λ e. absurd (omega (arith, e)))
-          s.0.split (turn_in-made l 2 values) refl t
-      | false ↦ tells_turn l past (captured l len values) s.0.older s.0.split (turn_in-made l 2 values) t
-    ]
-tells_next step m words l past (Answering len values position outcome stored) s t =
-    let P : Option Action → Type 0 = λ a. Tells (made l (unwrap_or a Rest) past) in
-    subst P (sym (slice_get-map store (answer (receipt_of position outcome)) stored)) (by (slice_get (answer (receipt_of position outcome)) stored))
-  where
-    by : (next_store : Option (ℕ × ℕ)) → Tells (made l (unwrap_or (option_map store next_store) Rest) past)
-    by None = t
-    by (Some (word, value)) =
-        tells_store l word value past (answered l len values position (take stored (answer (receipt_of position outcome)))) s.0.older s.0.split t
+  -- the turn, which makes an entry
+  tells_turn : (past : List Mark) (p : List Trace) (older : List (List Trace))
+      → pieces l past ≡ p ∷ older
+      → turn_in p ≡ None
+      → Tells past
+      → Tells (Did (Turned l (length (requests past))) ∷ past)
+  tells_turn past p older split none t =
+      let n : ℕ = length (requests past) in
+      let now : List Mark = Did (Turned l n) ∷ past in
+      let made_one : Trace = Turned l n in
+      let saved : Saved = last_saved l past in
+      let asked : Request = request_in l saved (newest (pieces l past)) in
+      let grown : pieces l now ≡ (p ++ made_one ∷ []) ∷ older = pieces-turned l n past ∙ ap (joined made_one) split in
+      let newest_is : newest (pieces l past) ≡ p = ap newest split in
+      record {
+        loads = t.loads;
+        turns =
+            turns_in-append (trace_of past) (made_one ∷ []) ∙ ap (λ turns. turns ++ (l, n) ∷ []) t.turns
+            ∙ ap (λ k. numbered 0 (requests past) ++ (l, k) ∷ []) (omega arith)
+            ∙ sym (numbered-snoc 0 (requests past) asked);
+        entered = λ position request h.
+            last_or_front (requests past) asked request position (Entered (pieces request.lane now) position request) h
+            (λ front.
+            entered_any l past now position request
+            (λ e.
+            let P : List (List Trace) → Type 0 = λ ps. Entered ps position request in
+            subst P (sym grown) (entered_under p (p ++ made_one ∷ []) older position request none (subst P split e)))
+            (λ lane other. elsewhere l lane _ _ other) (t.entered position request front))
+            (λ at is.
+            let P : List (List Trace) → Type 0 = λ ps. Entered ps n (request_in l saved p) in
+            let Q : Request → Type 0 = λ r. Entered (pieces r.lane now) position r in
+            let R : ℕ → Type 0 = λ k. Entered (pieces l now) k asked in
+            let S : List Trace → Type 0 = λ q. Entered (pieces l now) n (request_in l saved q) in
+            subst Q is (subst R (sym at) (subst S (sym newest_is) (subst P (sym grown) (entered_turned p older l n saved none)))));
+      }
 
 -- each lane has a place, and the past tells its entries
 record Kept {M : Type 0} (step : M → Request → Outcome × M) (m : M) (words : ℕ) (past : List Mark) : Type 0 where
   placed : (lane : ℕ) → Placed step m words lane past
   tells : Tells past
-
-act_kept : {M : Type 0} (step : M → Request → Outcome × M) (m : M) (words l : ℕ) (past : List Mark) → IsBounded step → Kept step m words past → Kept step m words (act step m words l past)
-act_kept step m words l past bounded k =
-    let p = k.placed l in
-    let P : Action → Type 0 = λ a. Tells (made l a past) in
-    record {
-      placed = λ lane. acts_any step m words lane l 1 past bounded (k.placed lane);
-      tells = subst P (sym (next_of_place words (outcomes_of step m past) l past p.place p.stands)) (tells_next step m words l past p.place p.stands k.tells);
-    }
-
-acts_kept : {M : Type 0} (step : M → Request → Outcome × M) (m : M) (words l n : ℕ) (past : List Mark) → IsBounded step → Kept step m words past → Kept step m words (acts step m words l n past)
-acts_kept step m words l zero past bounded k = k
-acts_kept step m words l (suc n) past bounded k = acts_kept step m words l n (act step m words l past) bounded (act_kept step m words l past bounded k)
 
 -- a ring and a poke leave what the past tells
 tells_ring : (l : ℕ) (saved : Saved) (past : List Mark) (b : Bool) → Tells past → Tells (if b then Rung l saved ∷ past else past)
@@ -333,68 +342,138 @@ tells_ring l saved past false t = t
 tells_poke : (l word value : ℕ) (past : List Mark) → Tells past → Tells (Did (Poked l word value) ∷ past)
 tells_poke l word value past t = record { loads = t.loads; turns = no_turn past (Poked l word value) refl t.turns; entered = t.entered }
 
-happens_kept : {M : Type 0} (step : M → Request → Outcome × M) (m : M) (words : ℕ) (event : Event) (past : List Mark) → IsBounded step → Kept step m words past → Kept step m words (happens step m words event past)
-happens_kept step m words (Ring l saved) past bounded k = record {
-  placed = λ lane. happens_placed step m words lane (Ring l saved) past bounded (k.placed lane);
-  tells = tells_ring l saved past (rests words (outcomes_of step m past) l past) k.tells;
-}
-happens_kept step m words (Poke l word value) past bounded k = record {
-  placed = λ lane. happens_placed step m words lane (Poke l word value) past bounded (k.placed lane);
-  tells = tells_poke l word value past k.tells;
-}
-happens_kept step m words (Steps l count) past bounded k = acts_kept step m words l count past bounded k
-happens_kept step m words (Run l) past bounded k = acts_kept step m words l (longest words) past bounded k
-
-behind_kept : {M : Type 0} (step : M → Request → Outcome × M) (m : M) (words : ℕ) (events : List Event) (past : List Mark) → IsBounded step → Kept step m words past → Kept step m words (behind step m words events past)
-behind_kept step m words [] past bounded k = k
-behind_kept step m words (event ∷ events) past bounded k =
-    behind_kept step m words events (happens step m words event past) bounded (happens_kept step m words event past bounded k)
-
 -- nothing happened yet
 nothing_entered : AllEntered []
 nothing_entered position request h = absurd (none-some request h)
 
-course_kept : {M : Type 0} (step : M → Request → Outcome × M) (m : M) (words : ℕ) (events : List Event) → IsBounded step → Kept step m words (course step m words events)
-course_kept step m words events bounded =
-    behind_kept step m words events [] bounded record {
-      placed = λ lane. course_placed step m words lane [] bounded;
-      tells = record { loads = tt; turns = refl; entered = nothing_entered };
-    }
+module _ {M : Type 0} (step : M → Request → Outcome × M) (m : M) (words : ℕ) where
+  -- the lane's next action at its place
+  tells_next : (l : ℕ) (past : List Mark) (place : Place)
+      → StandsIn words (outcomes_of step m past) l past place
+      → Tells past
+      → Tells (made l (next_at words place) past)
+  tells_next l past AtRest s t = t
+  tells_next l past Called s t = tells_length l (value_at l 0 past) past refl t
+  tells_next l past (Capturing len values) s t =
+      elim (nat_lt (length values) (needed words len)) as (λ b. Tells (made l (if b then Load (2 + length values) else Turn) past)) [
+        | true ↦
+            tells_word l (2 + length values) (value_at l (2 + length values) past) past (captured l len values) s.0.older
+            (λ e. absurd (omega (arith, e)))
+            s.0.split (turn_in-made l 2 values) refl t
+        | false ↦ tells_turn l past (captured l len values) s.0.older s.0.split (turn_in-made l 2 values) t
+      ]
+  tells_next l past (Answering len values position outcome stored) s t =
+      let P : Option Action → Type 0 = λ a. Tells (made l (unwrap_or a Rest) past) in
+      subst P (sym (slice_get-map store (answer (receipt_of position outcome)) stored))
+      (by (slice_get (answer (receipt_of position outcome)) stored))
+    where
+      by : (next_store : Option (ℕ × ℕ)) → Tells (made l (unwrap_or (option_map store next_store) Rest) past)
+      by None = t
+      by (Some (word, value)) =
+          tells_store l word value past
+          (answered l len values position (take stored (answer (receipt_of position outcome)))) s.0.older s.0.split t
 
--- a piece that came to its turn loads each word of its request once
-whole_once : (words : ℕ) (outs : List Outcome) (lane : ℕ) (ps : List (List Trace)) (k : ℕ) (piece : List Trace) → AreWhole words outs lane ps → slice_get ps k ≡ Some piece → LoadsOnce words piece
-whole_once words outs lane ps k piece w h = (served words outs lane piece (one_whole words outs lane ps k piece w h)).loads
+  act_kept : (l : ℕ) (past : List Mark) → IsBounded step → Kept step m words past → Kept step m words (act step m words l past)
+  act_kept l past bounded k =
+      let p = k.placed l in
+      let P : Action → Type 0 = λ a. Tells (made l a past) in
+      record {
+        placed = λ lane. acts_any step m words lane l 1 past bounded (k.placed lane);
+        tells =
+            subst P (sym (next_of_place words (outcomes_of step m past) l past p.place p.stands))
+            (tells_next l past p.place p.stands k.tells);
+      }
 
-newest_or_older : (words : ℕ) (outs : List Outcome) (lane : ℕ) (p : List Trace) (older : List (List Trace)) (k : ℕ) (piece : List Trace) → AreWhole words outs lane older → slice_get (p ∷ older) k ≡ Some piece → (p ≡ piece → LoadsOnce words piece) → LoadsOnce words piece
-newest_or_older words outs lane p older zero piece w h newest_once = newest_once (same_Some p piece h)
-newest_or_older words outs lane p older (suc k) piece w h newest_once = whole_once words outs lane older k piece w h
+  acts_kept : (l n : ℕ) (past : List Mark) → IsBounded step → Kept step m words past → Kept step m words (acts step m words l n past)
+  acts_kept l zero past bounded k = k
+  acts_kept l (suc n) past bounded k = acts_kept l n (act step m words l past) bounded (act_kept l past bounded k)
 
-turned_once : (words : ℕ) (outs : List Outcome) (lane : ℕ) (past : List Mark) (place : Place) (k : ℕ) (piece : List Trace) (position : ℕ) → StandsIn words outs lane past place → slice_get (pieces lane past) k ≡ Some piece → turn_in piece ≡ Some position → LoadsOnce words piece
-turned_once words outs lane past AtRest k piece position s h t = whole_once words outs lane (pieces lane past) k piece s.before h
-turned_once words outs lane past Called k piece position s h t = whole_once words outs lane (pieces lane past) k piece s.before h
-turned_once words outs lane past (Capturing len values) k piece position s h t =
-    newest_or_older words outs lane (captured lane len values) s.0.older k piece s.0.before (ap (λ ps. slice_get ps k) (sym s.0.split) ∙ h)
-    (λ e. absurd (none-some position (sym (turn_in-made lane 2 values) ∙ ap turn_in e ∙ t)))
-turned_once words outs lane past (Answering len values at outcome stored) k piece position s h t =
-    let P : List Trace → Type 0 = λ p. LoadsOnce words p in
-    newest_or_older words outs lane (answered lane len values at (take stored (answer (receipt_of at outcome)))) s.0.older k piece s.0.before
-    (ap (λ ps. slice_get ps k) (sym s.0.split) ∙ h)
-    (λ e. subst P e (loads_answered words lane len values at (take stored (answer (receipt_of at outcome))) s.1.enough))
+  happens_kept : (event : Event) (past : List Mark)
+      → IsBounded step
+      → Kept step m words past
+      → Kept step m words (happens step m words event past)
+  happens_kept (Ring l saved) past bounded k = record {
+    placed = λ lane. happens_placed step m words lane (Ring l saved) past bounded (k.placed lane);
+    tells = tells_ring l saved past (rests words (outcomes_of step m past) l past) k.tells;
+  }
+  happens_kept (Poke l word value) past bounded k = record {
+    placed = λ lane. happens_placed step m words lane (Poke l word value) past bounded (k.placed lane);
+    tells = tells_poke l word value past k.tells;
+  }
+  happens_kept (Steps l count) past bounded k = acts_kept l count past bounded k
+  happens_kept (Run l) past bounded k = acts_kept l (longest words) past bounded k
+
+  after_events_kept : (events : List Event) (past : List Mark)
+      → IsBounded step
+      → Kept step m words past
+      → Kept step m words (after_events step m words events past)
+  after_events_kept [] past bounded k = k
+  after_events_kept (event ∷ events) past bounded k =
+      after_events_kept events (happens step m words event past) bounded (happens_kept event past bounded k)
+
+  course_kept : (events : List Event) → IsBounded step → Kept step m words (course step m words events)
+  course_kept events bounded =
+      after_events_kept events [] bounded record {
+        placed = λ lane. course_placed step m words lane [] bounded;
+        tells = record { loads = tt; turns = refl; entered = nothing_entered };
+      }
 
 -- the requests of a replay are those that were replayed
 requests_replayed : {M : Type 0} (step : M → Request → Outcome × M) (m : M) (rs : List Request) → requests_of (replayed step m rs) ≡ rs
 requests_replayed step m [] = refl
 requests_replayed step m (r ∷ rs) = ap (λ qs. r ∷ qs) (requests_replayed step (step m r).1 rs)
 
-request_at : (entries : List Entry) (rs : List Request) (position : ℕ) (entry : Entry) → requests_of entries ≡ rs → slice_get entries position ≡ Some entry → slice_get rs position ≡ Some entry.request
+request_at : (entries : List Entry) (rs : List Request) (position : ℕ) (entry : Entry)
+    → requests_of entries ≡ rs
+    → slice_get entries position ≡ Some entry
+    → slice_get rs position ≡ Some entry.request
 request_at entries rs position entry is h =
-    ap (λ qs. slice_get qs position) (sym is) ∙ slice_get-map (λ (e : Entry). e.request) entries position ∙ ap (option_map (λ (e : Entry). e.request)) h
+    ap (λ qs. slice_get qs position) (sym is) ∙ slice_get-map (λ (e : Entry). e.request) entries position
+    ∙ ap (option_map (λ (e : Entry). e.request)) h
 
-outcome_at : (entries : List Entry) (position : ℕ) (entry : Entry) → slice_get entries position ≡ Some entry → slice_get (map (λ (e : Entry). e.outcome) entries) position ≡ Some entry.outcome
-outcome_at entries position entry h = slice_get-map (λ (e : Entry). e.outcome) entries position ∙ ap (option_map (λ (e : Entry). e.outcome)) h
+outcome_at : (entries : List Entry) (position : ℕ) (entry : Entry)
+    → slice_get entries position ≡ Some entry
+    → slice_get (map (λ (e : Entry). e.outcome) entries) position ≡ Some entry.outcome
+outcome_at entries position entry h =
+    slice_get-map (λ (e : Entry). e.outcome) entries position ∙ ap (option_map (λ (e : Entry). e.outcome)) h
+
+module _ (words : ℕ) (outs : List Outcome) (lane : ℕ) where
+  -- a piece that came to its turn loads each word of its request once
+  whole_once : (ps : List (List Trace)) (k : ℕ) (piece : List Trace)
+      → AreWhole words outs lane ps
+      → slice_get ps k ≡ Some piece
+      → LoadsOnce words piece
+  whole_once ps k piece w h = (served words outs lane piece (one_whole words outs lane ps k piece w h)).loads
+
+  newest_or_older : (p : List Trace) (older : List (List Trace)) (k : ℕ) (piece : List Trace)
+      → AreWhole words outs lane older
+      → slice_get (p ∷ older) k ≡ Some piece
+      → (p ≡ piece → LoadsOnce words piece)
+      → LoadsOnce words piece
+  newest_or_older p older zero piece w h newest_once = newest_once (same_Some p piece h)
+  newest_or_older p older (suc k) piece w h newest_once = whole_once older k piece w h
+
+  turned_once : (past : List Mark) (place : Place) (k : ℕ) (piece : List Trace) (position : ℕ)
+      → StandsIn words outs lane past place
+      → slice_get (pieces lane past) k ≡ Some piece
+      → turn_in piece ≡ Some position
+      → LoadsOnce words piece
+  turned_once past AtRest k piece position s h t = whole_once (pieces lane past) k piece s.before h
+  turned_once past Called k piece position s h t = whole_once (pieces lane past) k piece s.before h
+  turned_once past (Capturing len values) k piece position s h t =
+      newest_or_older (captured lane len values) s.0.older k piece s.0.before (ap (λ ps. slice_get ps k) (sym s.0.split) ∙ h)
+      (λ e. absurd (none-some position (sym (turn_in-made lane 2 values) ∙ ap turn_in e ∙ t)))
+  turned_once past (Answering len values at outcome stored) k piece position s h t =
+      let P : List Trace → Type 0 = λ p. LoadsOnce words p in
+      newest_or_older (answered lane len values at (take stored (answer (receipt_of at outcome)))) s.0.older k piece s.0.before
+      (ap (λ ps. slice_get ps k) (sym s.0.split) ∙ h)
+      (λ e. subst P e (loads_answered words lane len values at (take stored (answer (receipt_of at outcome))) s.1.enough))
 
 -- an entry was captured once
-captured_once : {M : Type 0} (step : M → Request → Outcome × M) (m : M) (words : ℕ) (past : List Mark) (position : ℕ) (entry : Entry) → Kept step m words past → slice_get (replayed step m (requests past)) position ≡ Some entry → WasCapturedOnce words (trace_of past) position entry
+captured_once : {M : Type 0} (step : M → Request → Outcome × M) (m : M) (words : ℕ) (past : List Mark) (position : ℕ) (entry : Entry)
+    → Kept step m words past
+    → slice_get (replayed step m (requests past)) position ≡ Some entry
+    → WasCapturedOnce words (trace_of past) position entry
 captured_once step m words past position entry k h =
     let rs : List Request = requests past in
     let lane : ℕ = entry.request.lane in
@@ -412,17 +491,26 @@ captured_once step m words past position entry k h =
       turn = e.turn;
       request = e.request_is;
       once = turned_once words outs lane past p.place e.place e.piece position p.stands e.there e.turn;
-      in_order = ap (λ actions. take (length (map action_of e.piece)) actions) (ap (λ n. whole words n (Some (receipt_of position entry.outcome))) (sym length_is) ∙ ap (whole words (length_in e.piece)) (sym receipt_is)) ∙ begins;
+      in_order =
+          ap (λ actions. take (length (map action_of e.piece)) actions)
+          (ap (λ n. whole words n (Some (receipt_of position entry.outcome))) (sym length_is)
+          ∙ ap (whole words (length_in e.piece)) (sym receipt_is)) ∙ begins;
     }
 
--- each piece behind the newest was served whole
-served_behind : (words : ℕ) (outs : List Outcome) (lane : ℕ) (past : List Mark) (at : Place) (place : ℕ) (piece : List Trace) → StandsIn words outs lane past at → slice_get (pieces lane past) (place + 1) ≡ Some piece → IsServed words outs piece
-served_behind words outs lane past at place piece s h =
+-- each piece but the newest was served whole
+served_older : (words : ℕ) (outs : List Outcome) (lane : ℕ) (past : List Mark) (at : Place) (place : ℕ) (piece : List Trace)
+    → StandsIn words outs lane past at
+    → slice_get (pieces lane past) (place + 1) ≡ Some piece
+    → IsServed words outs piece
+served_older words outs lane past at place piece s h =
     let e : suc place ≡ place + 1 = omega arith in
     served words outs lane piece (older_whole words outs lane past at place piece s (ap (slice_get (pieces lane past)) e ∙ h))
 
 -- what stands for events has the headline
-pub headline_of : {M : Type 0} (step : M → Request → Outcome × M) (m : M) (events : List Event) (w : WorldState M) → IsBounded step → StandsFor step m events w → Headline step m w
+pub headline_of : {M : Type 0} (step : M → Request → Outcome × M) (m : M) (events : List Event) (w : WorldState M)
+    → IsBounded step
+    → StandsFor step m events w
+    → Headline step m w
 headline_of {M} step m events w bounded s =
     let past : List Mark = course step m w.words events in
     let rs : List Request = requests past in
@@ -440,11 +528,18 @@ headline_of {M} step m events w bounded s =
           subst W (sym s.trace) (captured_once step m w.words past position entry k (ap (λ es. slice_get es position) (sym s.entries) ∙ h));
       served = λ lane place piece h.
           let S : List Outcome → Type 0 = λ os. IsServed w.words os piece in
-          subst S (sym are_outs) (served_behind w.words outs lane past (k.placed lane).place place piece (k.placed lane).stands (ap (λ ps. slice_get ps (place + 1)) (sym (are_pieces lane)) ∙ h));
+          subst S (sym are_outs)
+          (served_older w.words outs lane past (k.placed lane).place place piece (k.placed lane).stands
+          (ap (λ ps. slice_get ps (place + 1)) (sym (are_pieces lane)) ∙ h));
       begun = λ lane piece h.
-          let B : List Outcome → Type 0 = λ os. Begins (map action_of piece) (whole w.words (length_in piece) (receipt_at os (turn_in piece))) in
-          subst B (sym are_outs) (each_begins w.words outs lane past (k.placed lane).place 0 piece (k.placed lane).stands (ap (λ ps. slice_get ps 0) (sym (are_pieces lane)) ∙ h));
+          let B : List Outcome → Type 0 =
+          λ os. Begins (map action_of piece) (whole w.words (length_in piece) (receipt_at os (turn_in piece))) in
+          subst B (sym are_outs)
+          (each_begins w.words outs lane past (k.placed lane).place 0 piece (k.placed lane).stands
+          (ap (λ ps. slice_get ps 0) (sym (are_pieces lane)) ∙ h));
       one_thread = s.entries ∙ ap (replayed step m) (sym is_requests);
       state = s.now ∙ ap (left_by step m) (sym is_requests);
-      lanes = λ lane seen word there h. (s.each lane seen there).values word h ∙ sym (value_told lane word past) ∙ ap (λ t. value_at lane word (marks_of t)) (sym s.trace);
+      lanes =
+          λ lane seen word there h. (s.each lane seen there).values word h ∙ sym (value_told lane word past)
+          ∙ ap (λ t. value_at lane word (marks_of t)) (sym s.trace);
     }

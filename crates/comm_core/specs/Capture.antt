@@ -31,8 +31,10 @@ abbrev pub value_at : ℕ → ℕ → List Mark → ℕ
 value_at lane word [] = 0
 value_at lane word (Rung l saved ∷ past) = value_at lane word past
 value_at lane word (Did (Loaded l w value) ∷ past) = value_at lane word past
-value_at lane word (Did (Stored l w value) ∷ past) = if (l == lane) && (w == word) then value else value_at lane word past
-value_at lane word (Did (Poked l w value) ∷ past) = if (l == lane) && (w == word) then value else value_at lane word past
+value_at lane word (Did (Stored l w value) ∷ past) =
+    if (l == lane) && (w == word) then value else value_at lane word past
+value_at lane word (Did (Poked l w value) ∷ past) =
+    if (l == lane) && (w == word) then value else value_at lane word past
 value_at lane word (Did (Turned l position) ∷ past) = value_at lane word past
 
 -- how many rings of a lane were accepted
@@ -58,11 +60,17 @@ pieces lane [] = []
 pieces lane (Rung l saved ∷ past) = pieces lane past
 pieces lane (Did (Loaded l word value) ∷ past) =
     if l == lane
-    then (if word == 0 then (Loaded l word value ∷ []) ∷ pieces lane past else joined (Loaded l word value) (pieces lane past))
+    then (
+    if word == 0
+    then (Loaded l word value ∷ []) ∷ pieces lane past
+    else joined (Loaded l word value) (pieces lane past)
+    )
     else pieces lane past
-pieces lane (Did (Stored l word value) ∷ past) = if l == lane then joined (Stored l word value) (pieces lane past) else pieces lane past
+pieces lane (Did (Stored l word value) ∷ past) =
+    if l == lane then joined (Stored l word value) (pieces lane past) else pieces lane past
 pieces lane (Did (Poked l word value) ∷ past) = pieces lane past
-pieces lane (Did (Turned l position) ∷ past) = if l == lane then joined (Turned l position) (pieces lane past) else pieces lane past
+pieces lane (Did (Turned l position) ∷ past) =
+    if l == lane then joined (Turned l position) (pieces lane past) else pieces lane past
 
 -- The marks that a trace tells, the newest first, and the pieces of a lane in a trace. A trace tells no rings; no piece
 -- asks for them.
@@ -77,7 +85,7 @@ abbrev pub newest : List (List Trace) → List Trace
 newest [] = []
 newest (piece ∷ older) = piece
 
--- The captured requests, one for each turn, in recorded order. What happens behind a turn doesn't change its request.
+-- The captured requests, one for each turn, in recorded order. What happens after a turn doesn't change its request.
 abbrev pub requests : List Mark → List Request
 requests [] = []
 requests (Rung lane saved ∷ past) = requests past
@@ -101,7 +109,8 @@ is_rest (Store word value) = false
 -- A lane rests where it has as many pieces as accepted rings, and each of them is whole.
 abbrev pub rests : ℕ → List Outcome → ℕ → List Mark → Bool
 rests words outcomes lane past =
-    (rings lane past == length (pieces lane past)) && list_all (λ piece. is_rest (next_in words outcomes piece)) (pieces lane past)
+    (rings lane past == length (pieces lane past))
+    && list_all (λ piece. is_rest (next_in words outcomes piece)) (pieces lane past)
 
 -- the piece of the last accepted ring: none of it where there are more rings than pieces
 abbrev pub current : ℕ → List Mark → List Trace
@@ -109,7 +118,8 @@ current lane past = if rings lane past == length (pieces lane past) then newest 
 
 -- the next action of a lane
 abbrev pub next : ℕ → List Outcome → ℕ → List Mark → Action
-next words outcomes lane past = if rests words outcomes lane past then Rest else next_in words outcomes (current lane past)
+next words outcomes lane past =
+    if rests words outcomes lane past then Rest else next_in words outcomes (current lane past)
 
 -- what has happened when the lane's processor has made this action too
 abbrev pub made : ℕ → Action → List Mark → List Mark
@@ -118,7 +128,7 @@ made lane (Load word) past = Did (Loaded lane word (value_at lane word past)) �
 made lane Turn past = Did (Turned lane (length (requests past))) ∷ past
 made lane (Store word value) past = Did (Stored lane word value) ∷ past
 
--- the lane's next action, and so many next actions of it
+-- the lane's next action, and its next n actions
 abbrev pub act : {M : Type 0} → (M → Request → Outcome × M) → M → ℕ → ℕ → List Mark → List Mark
 act step machine words lane past = made lane (next words (outcomes_of step machine past) lane past) past
 
@@ -131,7 +141,7 @@ abbrev pub longest : ℕ → ℕ
 longest words = 2 * words + 4
 
 -- What an event makes happen. A poke makes its record. A ring is accepted exactly where the lane rests, and makes no
--- record. Steps makes so many next actions, and fewer where the lane rests before; run makes them until it rests.
+-- record. Steps makes `count` next actions, and fewer where the lane rests before; run makes them until it rests.
 abbrev pub happens : {M : Type 0} → (M → Request → Outcome × M) → M → ℕ → Event → List Mark → List Mark
 happens step machine words (Ring lane saved) past =
     if rests words (outcomes_of step machine past) lane past then Rung lane saved ∷ past else past
@@ -139,11 +149,12 @@ happens step machine words (Poke lane word value) past = Did (Poked lane word va
 happens step machine words (Steps lane count) past = acts step machine words lane count past
 happens step machine words (Run lane) past = acts step machine words lane (longest words) past
 
--- what has happened behind these events, in order, where this has happened before
-abbrev pub behind : {M : Type 0} → (M → Request → Outcome × M) → M → ℕ → List Event → List Mark → List Mark
-behind step machine words [] past = past
-behind step machine words (event ∷ events) past = behind step machine words events (happens step machine words event past)
+-- what has happened after these events, in order, where `past` has happened before
+abbrev pub after_events : {M : Type 0} → (M → Request → Outcome × M) → M → ℕ → List Event → List Mark → List Mark
+after_events step machine words [] past = past
+after_events step machine words (event ∷ events) past =
+    after_events step machine words events (happens step machine words event past)
 
 -- all that events make happen from this machine
 abbrev pub course : {M : Type 0} → (M → Request → Outcome × M) → M → ℕ → List Event → List Mark
-course step machine words events = behind step machine words events []
+course step machine words events = after_events step machine words events []

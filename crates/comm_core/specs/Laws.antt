@@ -31,23 +31,23 @@ loads_of word (Stored lane w value ∷ piece) = loads_of word piece
 loads_of word (Poked lane w value ∷ piece) = loads_of word piece
 loads_of word (Turned lane position ∷ piece) = loads_of word piece
 
--- what stands behind the turn of a piece
-abbrev pub behind_turn : List Trace → List Trace
-behind_turn [] = []
-behind_turn (Loaded lane word value ∷ piece) = behind_turn piece
-behind_turn (Stored lane word value ∷ piece) = behind_turn piece
-behind_turn (Poked lane word value ∷ piece) = behind_turn piece
-behind_turn (Turned lane position ∷ piece) = piece
+-- what follows the turn of a piece
+abbrev pub after_turn : List Trace → List Trace
+after_turn [] = []
+after_turn (Loaded lane word value ∷ piece) = after_turn piece
+after_turn (Stored lane word value ∷ piece) = after_turn piece
+after_turn (Poked lane word value ∷ piece) = after_turn piece
+after_turn (Turned lane position ∷ piece) = piece
 
 -- a word of a request of this length: the length word, or one of the data words that it needs
 abbrev pub IsOfRequest : ℕ → ℕ → ℕ → Type 0
 IsOfRequest words len word = (word ≡ 0) ⊎ ((2 ≤ word) × (word < 2 + needed words len))
 
--- A piece loads each word of its request exactly once, no other word at all, and nothing behind its turn.
+-- A piece loads each word of its request exactly once, no other word at all, and nothing after its turn.
 pub record LoadsOnce (words : ℕ) (piece : List Trace) : Type 0 where
   pub once : (word : ℕ) → IsOfRequest words (length_in piece) word → loads_of word piece ≡ 1
   pub no_other : (word : ℕ) → (IsOfRequest words (length_in piece) word → ⊥) → loads_of word piece ≡ 0
-  pub before_turn : loaded (behind_turn piece) ≡ []
+  pub before_turn : loaded (after_turn piece) ≡ []
 
 -- A piece is served: its turn has its receipt, and its records are just the actions of a whole piece of the length that
 -- it loaded and of this receipt, in order.
@@ -57,7 +57,7 @@ pub record IsServed (words : ℕ) (outcomes : List Outcome) (piece : List Trace)
   pub in_order : map action_of piece ≡ whole words (length_in piece) (Some receipt)
   pub loads : LoadsOnce words piece
 
--- Behind every list of events, each piece of each lane that has nothing next is served.
+-- After every list of events, each piece of each lane that has nothing next is served.
 abbrev pub EachWordOnce : {M : Type 0} → (M → Request → Outcome × M) → Type 0
 EachWordOnce {M} step =
     (machine : M) (words : ℕ) (events : List Event) (lane k : ℕ) (piece : List Trace)
@@ -76,8 +76,10 @@ OlderAreServed {M} step =
 abbrev pub EachBegins : {M : Type 0} → (M → Request → Outcome × M) → Type 0
 EachBegins {M} step =
     (machine : M) (words : ℕ) (events : List Event) (lane k : ℕ) (piece : List Trace)
-    → slice_get (pieces lane (course step machine words events)) k ≡ Some piece
-    → Begins (map action_of piece) (whole words (length_in piece) (receipt_at (outcomes_of step machine (course step machine words events)) (turn_in piece)))
+    → let past : List Mark = course step machine words events in
+    let outcomes : List Outcome = outcomes_of step machine past in
+    slice_get (pieces lane past) k ≡ Some piece
+    → Begins (map action_of piece) (whole words (length_in piece) (receipt_at outcomes (turn_in piece)))
 
 -- What happens later leaves the captured requests as they are.
 abbrev pub RequestsStay : Type 0
@@ -89,8 +91,9 @@ CourseRequestsStay {M} step =
     (machine : M) (words : ℕ) (events more : List Event)
     → Begins (requests (course step machine words events)) (requests (course step machine words (events ++ more)))
 
--- Behind a run of a lane, the lane rests.
+-- After a run of a lane, the lane rests.
 abbrev pub RunRests : {M : Type 0} → (M → Request → Outcome × M) → Type 0
 RunRests {M} step =
     (machine : M) (words : ℕ) (events : List Event) (lane : ℕ)
-    → rests words (outcomes_of step machine (course step machine words (events ++ Run lane ∷ []))) lane (course step machine words (events ++ Run lane ∷ [])) ≡ true
+    → let now : List Mark = course step machine words (events ++ Run lane ∷ []) in
+    rests words (outcomes_of step machine now) lane now ≡ true

@@ -5,5 +5,5 @@ pub mod Piece
 pub mod Processor
 pub mod Standing
 pub mod TestMachine
-pub mod Transitions
+pub mod TransitionsInside
 pub mod World

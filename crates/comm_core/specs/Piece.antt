@@ -17,12 +17,12 @@ use Rattle.comm_core.specs.declared.action.Action.TheVariants.{Rest, Load, Turn,
 use Rattle.comm_core.specs.declared.trace.Trace.{Trace}
 use Rattle.comm_core.specs.declared.trace.Trace.TheVariants.{Loaded, Stored, Poked, Turned}
 
--- How many data words a request of this length has: those that hold so many bytes, where the length is at least a
--- header's and at most the capacity; else none.
+-- How many data words a request of this length has: those that hold its bytes, where the length is at least a header's
+-- (24 bytes) and at most the capacity; else none.
 abbrev pub needed : ℕ → ℕ → ℕ
 needed words length = if nat_le 24 length && nat_le length (8 * words) then words_for length else 0
 
--- loads of so many words from this one on, rising
+-- loads of n words from this one on, rising
 abbrev pub loads : ℕ → ℕ → List Action
 loads word zero = []
 loads word (suc n) = Load word ∷ loads (word + 1) n
@@ -78,13 +78,13 @@ abbrev pub receipt_at : List Outcome → Option ℕ → Option Receipt
 receipt_at outcomes None = None
 receipt_at outcomes (Some position) = option_map (receipt_of position) (slice_get outcomes position)
 
--- What a piece has next: what a whole piece has behind as many actions as this one has records.
+-- The next action: entry `length piece` of a whole piece.
 abbrev pub next_in : ℕ → List Outcome → List Trace → Action
 next_in words outcomes piece =
     unwrap_or (slice_get (whole words (length_in piece) (receipt_at outcomes (turn_in piece))) (length piece)) Rest
 
--- The request of a piece: the length as it was loaded, the first so many bytes of the data words as they were loaded,
--- and the registers that were saved at its ring.
+-- The request of a piece: the length as it was loaded; that number of bytes, the first of the data words as they were
+-- loaded; and the registers that were saved at its ring.
 abbrev pub request_in : ℕ → Saved → List Trace → Request
 request_in lane saved piece = record {
   lane = lane;

@@ -2,6 +2,7 @@
 use Rattle.std.specs.Prelude.{◌≡◌, ◌≤◌, ◌<◌, ℕ, ◌+◌, ◌-◌, ◌*◌, ◌^◌, Bool, true, false, if◌then◌else◌, ◌==◌, nat_lt, [], ◌++◌, length, take, map, unwrap_or, slice_get}
 use Rattle.mm_base.specs.Numbers.{bytes_of_word}
 use Rattle.mm_base.specs.Prepared.{PreparedState}
+use Rattle.mm_base.specs.Room.{RoomState}
 use Rattle.mm_base.specs.declared.receipt.Receipt.{Receipt}
 use Rattle.comm_core.specs.Piece.{needed, answer, store}
 use Rattle.comm_core.specs.Capture.{longest}
@@ -30,15 +31,18 @@ is_resting (Storing receipt stored) = false
 abbrev pub next_action : ℕ → Stage → Action
 next_action words Resting = Rest
 next_action words (Rung prepared saved) = Load 0
-next_action words (Loading prepared saved len loaded) = if nat_lt loaded (needed words len) then Load (2 + loaded) else Turn
+next_action words (Loading prepared saved len loaded) =
+    if nat_lt loaded (needed words len) then Load (2 + loaded) else Turn
 next_action words (Turning bytes) = Turn
 next_action words (Storing receipt stored) = unwrap_or (slice_get (map store (answer receipt)) stored) Rest
 
 -- the prepared memory with the eight bytes of this word captured too
 abbrev pub with_word : PreparedState → ℕ → PreparedState
-with_word prepared value = record prepared { captured = record { items = prepared.captured.items ++ bytes_of_word value; room = prepared.captured.room } }
+with_word prepared value =
+    let captured : RoomState ℕ = prepared.captured in
+    record prepared { captured = record captured { items = captured.items ++ bytes_of_word value } }
 
--- the stage behind the load of the length
+-- the stage after the load of the length
 abbrev pub length_loaded : Stage → ℕ → Stage
 length_loaded Resting value = Resting
 length_loaded (Rung prepared saved) value = Loading prepared saved value 0
@@ -46,30 +50,31 @@ length_loaded (Loading prepared saved len loaded) value = Loading prepared saved
 length_loaded (Turning bytes) value = Turning bytes
 length_loaded (Storing receipt stored) value = Storing receipt stored
 
--- the stage behind a load of this value
-abbrev pub behind_load : Stage → ℕ → Stage
-behind_load Resting value = Resting
-behind_load (Rung prepared saved) value = Loading prepared saved value 0
-behind_load (Loading prepared saved len loaded) value = Loading (with_word prepared value) saved len (loaded + 1)
-behind_load (Turning bytes) value = Turning bytes
-behind_load (Storing receipt stored) value = Storing receipt stored
+-- the stage after a load of this value
+abbrev pub after_load : Stage → ℕ → Stage
+after_load Resting value = Resting
+after_load (Rung prepared saved) value = Loading prepared saved value 0
+after_load (Loading prepared saved len loaded) value = Loading (with_word prepared value) saved len (loaded + 1)
+after_load (Turning bytes) value = Turning bytes
+after_load (Storing receipt stored) value = Storing receipt stored
 
--- the stage behind a store: the last one leads to rest
-abbrev pub behind_store : Stage → Stage
-behind_store Resting = Resting
-behind_store (Rung prepared saved) = Rung prepared saved
-behind_store (Loading prepared saved len loaded) = Loading prepared saved len loaded
-behind_store (Turning bytes) = Turning bytes
-behind_store (Storing receipt stored) = if stored + 1 == length (answer receipt) then Resting else Storing receipt (stored + 1)
+-- the stage after a store: the last one leads to rest
+abbrev pub after_store : Stage → Stage
+after_store Resting = Resting
+after_store (Rung prepared saved) = Rung prepared saved
+after_store (Loading prepared saved len loaded) = Loading prepared saved len loaded
+after_store (Turning bytes) = Turning bytes
+after_store (Storing receipt stored) =
+    if stored + 1 == length (answer receipt) then Resting else Storing receipt (stored + 1)
 
--- the stage behind what is fed
-abbrev pub behind_fed : Stage → Fed → Stage
-behind_fed stage (fed.Ring prepared saved) = Rung prepared saved
-behind_fed stage (fed.Loaded value) = behind_load stage value
-behind_fed stage (fed.Answered receipt) = Storing receipt 0
-behind_fed stage fed.Stored = behind_store stage
+-- the stage after what is fed
+abbrev pub after_fed : Stage → Fed → Stage
+after_fed stage (fed.Ring prepared saved) = Rung prepared saved
+after_fed stage (fed.Loaded value) = after_load stage value
+after_fed stage (fed.Answered receipt) = Storing receipt 0
+after_fed stage fed.Stored = after_store stage
 
--- the prepared memory with its request made, of the first so many bytes that were captured
+-- the prepared memory with its request made, of the first `len` bytes that were captured
 abbrev pub sealed : ℕ → Stage → PreparedState → PreparedState
 sealed lane (Loading prepared saved len loaded) other = record prepared {
   entry = record {
@@ -114,7 +119,7 @@ IsSound words (Turning bytes) = bytes ≤ 8 * words
 IsSound words (Storing receipt stored) = IsAnswering words stored receipt
 
 -- Something may be fed that answers the next action: a ring at rest, with memory in which nothing was captured and that
--- has place for each data word; a value where it loads; a receipt behind its request, whose reply is no longer than
+-- has place for each data word; a value where it loads; a receipt after its request, whose reply is no longer than
 -- that; and word of a store.
 abbrev pub MayRing : ℕ → Stage → PreparedState → Type 0
 MayRing words Resting prepared = IsBlank words prepared

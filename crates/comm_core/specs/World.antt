@@ -21,13 +21,14 @@ use Rattle.comm_core.specs.declared.processor.Stage.{Stage}
 use Rattle.comm_core.specs.declared.processor.Stage.TheVariants.{Resting, Rung, Loading, Turning, Storing}
 use Rattle.comm_core.specs.declared.trace.Trace.{Trace}
 
--- What contracts see of one lane: the values of all its words (the length, the status, and then the data), and its processor.
+-- What contracts see of one lane: the values of all its words (the length, the status, and then the data), and its
+-- processor.
 pub record LaneState : Type 0 where
   pub values : List ℕ
   pub processor : ProcessorState
 
--- What contracts see of a world: how many data words each of its lanes has, its lanes, its machine, its entries in recorded
--- order, and its trace.
+-- What contracts see of a world: how many data words each of its lanes has, its lanes, its machine, its entries in
+-- recorded order, and its trace.
 pub record WorldState (M : Type 0) : Type 0 where
   pub words : ℕ
   pub lanes : List LaneState
@@ -42,7 +43,8 @@ pub record IsRung (place : Place) (last : Saved) (prepared : PreparedState) (sav
   pub registers : saved ≡ last
   pub nothing : prepared.captured.items ≡ []
 
-pub record IsLoading (place : Place) (last : Saved) (prepared : PreparedState) (saved : Saved) (len loaded : ℕ) : Type 0 where
+pub record IsLoading (place : Place) (last : Saved) (prepared : PreparedState) (saved : Saved) (len loaded : ℕ)
+    : Type 0 where
   pub values : List ℕ
   pub at : place ≡ Capturing len values
   pub registers : saved ≡ last
@@ -64,9 +66,10 @@ Follows place last (Loading prepared saved len loaded) = IsLoading place last pr
 Follows place last (Turning bytes) = ⊥
 Follows place last (Storing receipt stored) = IsStoring place receipt stored
 
--- A lane of a world stands at a past: its words have the values of the last stores and pokes to them, and its processor
--- follows the lane's place, with the saved registers of the ring under way.
-pub record LaneStands (words : ℕ) (outcomes : List Outcome) (lane : ℕ) (past : List Mark) (seen : LaneState) : Type 0 where
+-- A lane agrees with a past: its words have the values of the last stores and pokes to them, and its processor follows
+-- the lane's place, with the saved registers of the ring under way.
+pub record LaneStands (words : ℕ) (outcomes : List Outcome) (lane : ℕ) (past : List Mark) (seen : LaneState)
+    : Type 0 where
   pub place : Place
   pub stands : StandsIn words outcomes lane past place
   pub stage : Follows place (last_saved lane past) seen.processor.stage
@@ -75,8 +78,11 @@ pub record LaneStands (words : ℕ) (outcomes : List Outcome) (lane : ℕ) (past
 -- A world stands at a past: its trace is the records of that past; its entries are the captured requests, each with its
 -- outcome in their replay from this machine value; its machine is what that replay leaves; and each of its lanes stands
 -- at that past.
-pub record StandsAt {M : Type 0} (step : M → Request → Outcome × M) (machine : M) (past : List Mark) (w : WorldState M) : Type 0 where
-  pub each : (lane : ℕ) (seen : LaneState) → slice_get w.lanes lane ≡ Some seen → LaneStands w.words (outcomes_of step machine past) lane past seen
+pub record StandsAt {M : Type 0} (step : M → Request → Outcome × M) (machine : M) (past : List Mark) (w : WorldState M)
+    : Type 0 where
+  pub each : (lane : ℕ) (seen : LaneState)
+      → slice_get w.lanes lane ≡ Some seen
+      → LaneStands w.words (outcomes_of step machine past) lane past seen
   pub trace : w.trace ≡ trace_of past
   pub entries : w.entries ≡ replayed step machine (requests past)
   pub now : w.machine ≡ left_by step machine (requests past)
@@ -124,7 +130,7 @@ pub record IsLaneReady (words calls lane : ℕ) (seen : LaneState) : Type 0 wher
   pub size : length seen.values ≡ words + 2
   pub memory : HasRoom words calls seen.processor.stage
 
--- A world is ready: nothing behind an accepted ring can want memory.
+-- A world is ready: nothing after an accepted ring can be out of memory.
 pub record IsReady (words : ℕ) (lanes : List LaneState) (calls entries : ℕ) (trace : RoomState Trace) : Type 0 where
   pub low : 3 ≤ words
   pub high : words ≤ 512
@@ -133,7 +139,7 @@ pub record IsReady (words : ℕ) (lanes : List LaneState) (calls entries : ℕ) 
   pub records : length trace.items + sum_by (λ seen. to_come words seen.processor.stage) lanes ≤ trace.room
   pub turns_fit : entries + sum_by (λ seen. turns_to_come seen.processor.stage) lanes ≤ 2 ^ 32 + 16
 
--- an event speaks of a lane that is there, of so many lanes, and of words that it has
+-- an event speaks of one of `lanes` lanes, and of words that it has
 abbrev pub IsOfWorld : ℕ → ℕ → Event → Type 0
 IsOfWorld lanes words (Ring lane saved) = lane < lanes
 IsOfWorld lanes words (Poke lane word value) = (lane < lanes) × (word < words + 2)

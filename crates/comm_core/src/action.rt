@@ -1,5 +1,14 @@
 //! What a processor does next.
 
+/// The word of a lane that holds the length.
+pub(crate) const LENGTH_WORD: u32 = 0;
+
+/// The word of a lane that holds the status.
+pub(crate) const STATUS_WORD: u32 = 1;
+
+/// The first data word of a lane, and how many words stand before it.
+pub(crate) const FIRST_DATA_WORD: u32 = 2;
+
 /// The next action of the processor of a lane.
 #[derive(Clone, Copy, Debug, PartialEq, Eq)]
 pub enum Action {

@@ -4,14 +4,8 @@ ghost use Rattle.mm_base.specs.Numbers.{words_for};
 ghost use Rattle.comm_core.specs.Piece.{answer, store};
 
 use crate::Action;
+use crate::action::{FIRST_DATA_WORD, LENGTH_WORD, STATUS_WORD};
 use mm_base::{Receipt, WORD_BYTES, word_at};
-
-/// The words of a lane in front of its data words: the length and the status.
-const LENGTH_WORD: u32 = 0;
-
-const STATUS_WORD: u32 = 1;
-
-const FIRST_DATA_WORD: u32 = 2;
 
 /// How many stores an answer has.
 pub fn answer_length(receipt: &Receipt) -> u32

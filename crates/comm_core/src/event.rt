@@ -8,7 +8,7 @@ pub enum Event {
     Ring { lane: u32, saved: Saved },
     /// Somebody stores a value to a word of a lane.
     Poke { lane: u32, word: u32, value: u64 },
-    /// The processor of a lane makes so many actions, or fewer where it comes to rest before.
+    /// The processor of a lane makes `count` actions, or fewer where it comes to rest before.
     Steps { lane: u32, count: u32 },
     /// The processor of a lane makes actions until it rests.
     Run { lane: u32 },

@@ -1,15 +1,13 @@
 //! A lane: words that others can rewrite at any moment, and the processor that serves it.
 ghost use Rattle.std.specs.Prelude.{◌≡◌, ◌≤◌, ◌<◌, ◌+◌, ◌*◌, length, slice_index, IfOk};
-ghost use Rattle.comm_core.specs.Processor.{next_action, is_resting as rests_at, to_come, sealed, IsSound, MayRing, MayLoad, MayAnswer, MayStore, MayTake};
-ghost use Rattle.comm_core.specs.Transitions.{new_lane, lane_rung, lane_loaded, lane_taken, lane_answered, lane_stored, lane_poked, records_left};
+ghost use Rattle.comm_core.specs.Processor.{next_action, is_resting, to_come, sealed, IsSound, MayRing, MayLoad, MayAnswer, MayStore, MayTake};
+ghost use Rattle.comm_core.specs.TransitionsInside.{new_lane, lane_rung, lane_loaded, lane_taken, lane_answered, lane_stored, lane_poked, records_left};
 
+use crate::action::FIRST_DATA_WORD;
 use crate::{Action, Fed, Processor};
 use mm_base::{NoMemory, Prepared, Receipt, Saved};
 use std::alloc::Global;
 use std::marker::Model;
-
-/// The words of a lane in front of its data words.
-const WORDS_IN_FRONT: u32 = 2;
 
 /// The words of a lane, and the processor that captures requests from them and stores answers to them.
 #[derive(Drop)]
@@ -27,13 +25,13 @@ impl Model for Lane {
 }
 
 impl Lane {
-    /// The lane of this number with so many data words and all words 0, whose processor rests.
+    /// The lane of this number with `words` data words and all words 0, whose processor rests.
     pub fn new(alloc: Global, lane: u32, words: u32) -> Result<Lane, NoMemory>
         requires low { 3 ≤ words }
         requires high { words ≤ 512 }
         ensures { IfOk result (λ made. made ≡ new_lane words lane) }
     {
-        let values = vec![in alloc; 0; (words + WORDS_IN_FRONT) as usize]?;
+        let values = vec![in alloc; 0; (words + FIRST_DATA_WORD) as usize]?;
         Ok(Lane {
             values,
             processor: Processor::new(lane, words),
@@ -50,7 +48,7 @@ impl Lane {
 
     /// Whether its processor rests.
     pub fn is_resting(&self) -> bool
-        ensures { result ≡ rests_at self.now.processor.stage }
+        ensures { result ≡ is_resting self.now.processor.stage }
     {
         self.processor.is_resting()
     }
@@ -103,7 +101,9 @@ impl Lane {
         requires { MayTake self.old.processor.words self.old.processor.stage }
         ensures taken { result ≡ sealed self.old.processor.lane self.old.processor.stage result }
         ensures fits { length result.entry.request.bytes ≤ 8 * self.old.processor.words }
-        ensures stage { (bytes : _) × (self.new ≡ lane_taken self.old bytes) × (bytes ≡ length result.entry.request.bytes) }
+        ensures stage { (bytes : _)
+            × (self.new ≡ lane_taken self.old bytes)
+            × (bytes ≡ length result.entry.request.bytes) }
     {
         self.processor.take_request()
     }

@@ -1,4 +1,6 @@
-//! Processors that capture requests from lanes that others can rewrite at any moment, and the world in which they do.
+//! Floor: lanes. It promises that a request is captured word by word from words that others can rewrite at any moment,
+//! each loaded once and before the turn, and that a world is always what its events make happen. It never takes memory
+//! after an accepted ring, and never looks at what a request says but its length.
 #![tactic(auto)]
 
 mod action;

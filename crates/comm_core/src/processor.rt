@@ -1,17 +1,19 @@
 //! The processor of a lane: it captures a request word by word, and stores the answer word by word.
 ghost use Rattle.std.specs.Prelude.{◌≡◌, ◌≤◌, ◌<◌, ◌+◌, ◌*◌, nat_lt, if◌then◌else◌, length};
-ghost use Rattle.comm_core.specs.Piece.{needed as needed_words};
-ghost use Rattle.comm_core.specs.Processor.{next_action, is_resting as rests_at, to_come, behind_fed, length_loaded, behind_load as after_load, behind_store as after_store, sealed, IsSound, MayFeed, MayFeedSoundly, MayLoad, MayLoadSoundly, MayStore, MayStoreSoundly, MayTake};
+ghost use Rattle.comm_core.specs.Piece.{needed};
+ghost use Rattle.comm_core.specs.Processor.{next_action, is_resting, to_come, after_fed, length_loaded, after_load, after_store, sealed, IsSound, MayFeed, MayFeedSoundly, MayLoad, MayLoadSoundly, MayStore, MayStoreSoundly, MayTake};
 
 use crate::Action;
+use crate::action::{FIRST_DATA_WORD, LENGTH_WORD};
 use crate::answer::{answer_at, answer_length};
-use mm_base::{HEADER_BYTES, Prepared, Receipt, Saved};
+use mm_base::{HEADER_BYTES, Prepared, Receipt, Saved, WORD_BYTES};
 use std::marker::Model;
 use std::mem;
 
-/// The least and the most data words of a lane.
+/// The fewest data words that a lane may have.
 pub const LEAST_WORDS: u32 = 3;
 
+/// The most data words that a lane may have.
 pub const MOST_WORDS: u32 = 512;
 
 /// What a processor is fed, in answer to its next action.
@@ -32,11 +34,11 @@ pub enum Fed {
 enum Stage {
     Resting,
     Rung(Prepared, Saved),
-    /// The length was loaded, and so many data words.
+    /// The length was loaded, and this number of data words.
     Loading(Prepared, Saved, u64, u32),
-    /// The request was taken, with so many bytes.
+    /// The request was taken, with this number of bytes.
     Turning(usize),
-    /// So many words of the answer were stored.
+    /// This number of the answer's words was stored.
     Storing(Receipt, u32),
 }
 
@@ -60,7 +62,7 @@ impl Model for Processor {
 }
 
 impl Processor {
-    /// A processor at rest, for this lane of so many data words.
+    /// A processor at rest, for this lane of `words` data words.
     pub fn new(lane: u32, words: u32) -> Processor
         requires low { 3 ≤ words }
         requires high { words ≤ 512 }
@@ -80,7 +82,7 @@ impl Processor {
     {
         match &self.stage {
             Stage::Resting => Action::Rest,
-            Stage::Rung(_, _) => Action::Load(0),
+            Stage::Rung(_, _) => Action::Load(LENGTH_WORD),
             Stage::Loading(_, _, length, loaded) => next_load(self.words, *length, *loaded),
             Stage::Turning(_) => Action::Turn,
             Stage::Storing(receipt, stored) => answer_at(receipt, *stored),
@@ -89,7 +91,7 @@ impl Processor {
 
     /// Whether it rests.
     pub fn is_resting(&self) -> bool
-        ensures { result ≡ rests_at self.now.stage }
+        ensures { result ≡ is_resting self.now.stage }
     {
         matches!(self.stage, Stage::Resting)
     }
@@ -112,12 +114,12 @@ impl Processor {
     /// Goes on by what it is fed, in answer to its next action. It takes no memory.
     pub fn feed(&mut self, fed: Fed)
         requires { MayFeed self.old.words self.old.stage fed }
-        ensures { self.new ≡ record self.old { stage = behind_fed self.old.stage fed } }
+        ensures { self.new ≡ record self.old { stage = after_fed self.old.stage fed } }
     {
         self.stage.go_on(fed);
     }
 
-    /// Goes on by a load of this value: as `feed` does, without the room of all that may be fed.
+    /// Goes on by a load of this value: as `feed` does, without building a `Fed`.
     pub(crate) fn loaded(&mut self, value: u64)
         requires { MayLoad self.old.words self.old.stage }
         ensures { self.new ≡ record self.old { stage = after_load self.old.stage value } }
@@ -125,7 +127,7 @@ impl Processor {
         self.stage.load(value);
     }
 
-    /// Goes on by a store: as `feed` does, without the room of all that may be fed.
+    /// Goes on by a store: as `feed` does, without building a `Fed`.
     pub(crate) fn stored(&mut self)
         requires { MayStore self.old.stage }
         ensures { self.new ≡ record self.old { stage = after_store self.old.stage } }
@@ -138,7 +140,9 @@ impl Processor {
         requires { MayTake self.old.words self.old.stage }
         ensures taken { result ≡ sealed self.old.lane self.old.stage result }
         ensures fits { length result.entry.request.bytes ≤ 8 * self.old.words }
-        ensures stage { (bytes : _) × (self.new ≡ record self.old { stage = Stage.Turning bytes }) × (bytes ≡ length result.entry.request.bytes) }
+        ensures stage { (bytes : _)
+            × (self.new ≡ record self.old { stage = Stage.Turning bytes })
+            × (bytes ≡ length result.entry.request.bytes) }
     {
         match mem::replace(&mut self.stage, Stage::Resting) {
             Stage::Loading(mut prepared, saved, length, _) => {
@@ -163,7 +167,7 @@ impl Stage {
     /// Goes on by what is fed. Loads and stores change what they count in its place.
     fn go_on(&mut self, fed: Fed)
         requires { MayFeedSoundly self.old fed }
-        ensures { self.new ≡ behind_fed self.old fed }
+        ensures { self.new ≡ after_fed self.old fed }
     {
         match fed {
             Fed::Ring(prepared, saved) => put(self, Stage::Rung(prepared, saved)),
@@ -215,24 +219,25 @@ impl Stage {
 /// What a capture has next: a load, or its turn.
 fn next_load(words: u32, length: u64, loaded: u32) -> Action
     requires high { words ≤ 512 }
-    requires within { loaded ≤ needed_words words length }
-    ensures { result ≡ (if nat_lt loaded (needed_words words length) then Action.Load (2 + loaded) else Action.Turn) }
+    requires within { loaded ≤ needed words length }
+    ensures { result ≡ (if nat_lt loaded (needed words length) then Action.Load (2 + loaded) else Action.Turn) }
 {
-    if loaded < needed(words, length) {
-        Action::Load(2 + loaded)
+    if loaded < words_needed(words, length) {
+        Action::Load(FIRST_DATA_WORD + loaded)
     } else {
         Action::Turn
     }
 }
 
-/// How many data words a request of this length has, in a lane of so many.
-fn needed(words: u32, length: u64) -> u32
+/// How many data words a request of this length has, in a lane of `words` data words.
+fn words_needed(words: u32, length: u64) -> u32
     requires { words ≤ 512 }
-    ensures value { result ≡ needed_words words length }
+    ensures value { result ≡ needed words length }
     ensures within { result ≤ words }
 {
-    if HEADER_BYTES <= length && length <= 8 * u64::from(words) {
-        length.div_ceil(8) as u32
+    let word_bytes = WORD_BYTES as u64;
+    if HEADER_BYTES <= length && length <= word_bytes * u64::from(words) {
+        length.div_ceil(word_bytes) as u32
     } else {
         0
     }

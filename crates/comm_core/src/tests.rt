@@ -64,7 +64,7 @@ fn shape_of(len: usize) -> Shape
     }
 }
 
-/// Whether an event is of a world of so many lanes of so many data words.
+/// Whether an event is of a world of `lanes` lanes of `words` data words.
 fn is_there(lanes: u32, words: u32, event: &Event) -> bool
     requires { words ≤ 512 }
     ensures { result ≡ true → IsOfWorld lanes words event.now }
@@ -81,8 +81,8 @@ fn is_there(lanes: u32, words: u32, event: &Event) -> bool
     }
 }
 
-/// The world behind these events.
-fn world_behind(
+/// The world after these events.
+fn world_after(
     rt: &impl Abort,
     alloc: Global,
     lanes: u32,
@@ -210,13 +210,13 @@ fn has_first(world: &World<Clipper>) -> bool {
     }
 }
 
-/// The world behind the hostile events.
+/// The world after the hostile events.
 fn hostile_world(rt: &impl Abort, alloc: Global) -> Result<World<Clipper>, NoMemory>
     ensures words { IfOk result (λ world. world.words ≡ 3) }
     ensures lanes { IfOk result (λ world. length world.lanes ≡ 1) }
 {
     let events = hostile(alloc)?;
-    world_behind(rt, alloc, 1, 3, events.as_slice())
+    world_after(rt, alloc, 1, 3, events.as_slice())
 }
 
 fn try_hostile(rt: &impl Abort, world: &World<Clipper>)
@@ -248,8 +248,9 @@ fn steps(lane: u32, count: u32) -> Event {
     Event::Steps { lane, count }
 }
 
-// The processors of two lanes take turns, and words of each lane are rewritten while the other one's request is captured:
-// those that were loaded before change nothing, and those that are still to be loaded do. Lane 1 has its turn first.
+// The processors of two lanes take turns, and words of each lane are rewritten while the other one's request is
+// captured: those that were loaded before change nothing, and those that are still to be loaded do. Lane 1 has its turn
+// first.
 fn interleaved(alloc: Global) -> Result<List<Event>, NoMemory> {
     let events = [
         poke(0, 2, ONE),
@@ -353,12 +354,12 @@ fn is_asked(entry: &Entry, lane: u32, saved: Saved, second: u64) -> bool {
         && &bytes[8..16] == second.to_le_bytes().as_slice()
 }
 
-/// The world of two lanes behind the interleaved events.
+/// The world of two lanes after the interleaved events.
 fn interleaved_world(rt: &impl Abort, alloc: Global) -> Result<World<Clipper>, NoMemory>
     ensures { IfOk result (λ world. length world.lanes ≡ 2) }
 {
     let events = interleaved(alloc)?;
-    world_behind(rt, alloc, 2, 3, events.as_slice())
+    world_after(rt, alloc, 2, 3, events.as_slice())
 }
 
 fn try_interleaved(rt: &impl Abort, world: &World<Clipper>)
@@ -421,7 +422,7 @@ fn loads_and_entries(rt: &impl Abort, alloc: Global, length: u64) -> Result<(u32
         },
         Event::Run { lane: 0 },
     ];
-    let world = world_behind(rt, alloc, 1, 4, &events)?;
+    let world = world_after(rt, alloc, 1, 4, &events)?;
     Ok((count_loads(world.trace()), world.entries().len()))
 }
 

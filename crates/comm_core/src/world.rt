@@ -1,14 +1,13 @@
 //! A world: a machine, lanes that others can rewrite at any moment, and the processors that serve them.
-ghost use Rattle.std.specs.Prelude.{◌≡◌, ◌≤◌, ◌<◌, ◌+◌, ◌^◌, [], ◌∷◌, ◌++◌, List, length, slice_index, slice_get, Some, IfOk, OnOk, OnErr, IsOk, false};
+ghost use Rattle.std.specs.Prelude.{◌≡◌, ◌≤◌, ◌<◌, ◌+◌, ◌^◌, [], ◌∷◌, ◌++◌, List, length, slice_index, slice_get, Some, IfOk, OnOk, OnErr, IsOk, ◌↔◌, false};
 ghost use Rattle.comm_core.specs.Capture.{longest};
 ghost use Rattle.comm_core.specs.Processor.{next_action, IsSound};
 ghost use Rattle.comm_core.specs.World.{LaneState, StandsFor, IsOfWorld, entries_asked, rings_in, is_resting_at, takes_memory};
-ghost use Rattle.comm_core.specs.Transitions.{new_lanes as fresh_lanes, lane_at, loads_word, stores_word, turns, acts_once, acts_times, pokes, rung_at, prepared_for};
-ghost use Rattle.comm_core.specs.declared.event.Event.{Event as Happening};
+ghost use Rattle.comm_core.specs.TransitionsInside.{new_lanes, lane_at, loads_word, stores_word, turns, acts_once, acts_times, pokes, rung_at, prepared_for};
 
 use crate::lane::{Lane, records_to_come};
 use crate::{Action, Event, Trace};
-use mm_base::{Entries, Machine, NoMemory, Prepared, Room, Saved};
+use mm_base::{Entries, Machine, NoMemory, Prepared, Room, Saved, WORD_BYTES};
 use mm_history::Kept;
 use std::alloc::Global;
 use std::marker::Model;
@@ -37,11 +36,13 @@ impl<M: Machine> Model for World<M> {
       trace = w.trace.items;
     } };
 
-    ghost invariant = { λ w. IsReady w.words w.lanes.items (M.most_calls w.kept.machine) (length w.kept.entries) w.trace };
+    ghost invariant = { λ w.
+        IsReady w.words w.lanes.items (M.most_calls w.kept.machine) (length w.kept.entries) w.trace };
 }
 
 impl<M: Machine + Drop> World<M> {
-    /// A world of so many lanes of so many data words, with all their words 0, whose processors rest.
+    /// A world of `lanes` lanes of `words` data words each, with all their words 0, whose processors rest. It costs a
+    /// step for each word.
     pub fn new(alloc: Global, machine: M, lanes: u32, words: u32) -> Result<World<M>, NoMemory>
         requires some { 1 ≤ lanes }
         requires few { lanes ≤ 16 }
@@ -52,7 +53,7 @@ impl<M: Machine + Drop> World<M> {
         ensures lanes { IfOk result (λ world. length world.lanes ≡ lanes) }
         ensures entries { IfOk result (λ world. entries_asked world ≡ 0) }
     {
-        let lanes = new_lanes(alloc, lanes, words)?;
+        let lanes = make_lanes(alloc, lanes, words)?;
         Ok(World {
             alloc,
             words,
@@ -82,7 +83,8 @@ impl<M: Machine> World<M> {
     pub fn word(&self, lane: u32, word: u32) -> u64
         requires lane { lane < length self.now.lanes }
         requires word { word < self.now.words + 2 }
-        ensures { (seen : LaneState) → slice_get self.now.lanes lane ≡ Some seen → result ≡ slice_index seen.values word }
+        ensures { (seen : LaneState) → slice_get self.now.lanes lane ≡ Some seen →
+            result ≡ slice_index seen.values word }
     {
         self.lane(lane)[word as usize]
     }
@@ -103,12 +105,14 @@ impl<M: Machine> World<M> {
         self.trace.as_slice()
     }
 
-    /// One event. What it makes happen is made, or nothing where memory is wanting; only a poke and a ring at rest take
-    /// any, and cost a step for each lane. Else it costs a step for each action of the processor.
+    /// One event. What it makes happen is made, or nothing where it is out of memory. Only a poke and a ring at rest
+    /// take memory, and they cost a step for each lane; the others cost a step for each action of the processor.
     pub fn event(&mut self, event: &Event) -> Result<(), NoMemory>
         requires there { IsOfWorld (length self.old.lanes) self.old.words event.now }
         requires room { length self.old.entries < 2 ^ 32 }
-        ensures stands { OnOk result ((machine : M) (events : List Happening) → StandsFor M.stepped machine events self.old → StandsFor M.stepped machine (events ++ event.now ∷ []) self.new) }
+        ensures stands { OnOk result ((machine : M) (events : List Event) →
+            StandsFor M.stepped machine events self.old →
+            StandsFor M.stepped machine (events ++ event.now ∷ []) self.new) }
         ensures ok { takes_memory self.old.lanes event.now ≡ false → IsOk result }
         ensures err { OnErr result (self.new ≡ self.old) }
         ensures words { self.new.words ≡ self.old.words }
@@ -135,14 +139,20 @@ impl<M: Machine> World<M> {
     fn ring(&mut self, lane: u32, saved: Saved) -> Result<(), NoMemory>
         requires lane { lane < length self.old.lanes }
         requires room { length self.old.entries < 2 ^ 32 }
-        ensures ok { OnOk result (self.new ≡ rung_at self.old lane (lane_at self.old lane) (prepared_for self.old.words (M.most_calls self.old.machine)) saved) }
+        ensures ok { OnOk result (self.new ≡
+            rung_at self.old lane (lane_at self.old lane)
+            (prepared_for self.old.words (M.most_calls self.old.machine)) saved) }
         ensures away { is_resting_at lane self.old.lanes ≡ false → IsOk result }
         ensures err { OnErr result (self.new ≡ self.old) }
     {
         if !self.lanes[lane as usize].is_resting() {
             return Ok(());
         }
-        let prepared = Prepared::new(self.alloc, 8 * self.words, self.kept.machine().calls())?;
+        let prepared = Prepared::new(
+            self.alloc,
+            WORD_BYTES as u32 * self.words,
+            self.kept.machine().calls(),
+        )?;
         let records = records_to_come(self.lanes.as_slice()) + most_actions(self.words);
         self.trace.reserve(records as usize)?;
         self.lanes[lane as usize].ring(prepared, saved);
@@ -163,7 +173,7 @@ impl<M: Machine> World<M> {
         Ok(())
     }
 
-    /// The processor of a lane makes so many actions, or fewer where it comes to rest before.
+    /// The processor of a lane makes `count` actions, or fewer where it comes to rest before.
     fn steps(&mut self, lane: u32, count: u32)
         requires { lane < length self.old.lanes }
         ensures { self.new ≡ acts_times M.stepped lane count self.old }
@@ -179,7 +189,8 @@ impl<M: Machine> World<M> {
     fn act(&mut self, lane: u32) -> bool
         requires { lane < length self.old.lanes }
         ensures acts { self.new ≡ acts_once M.stepped lane self.old }
-        ensures rests { result ≡ false → next_action self.old.words (lane_at self.old lane).processor.stage ≡ Action.Rest }
+        ensures rests { (result ≡ false)
+            ↔ (next_action self.old.words (lane_at self.old lane).processor.stage ≡ Action.Rest) }
     {
         match self.lanes[lane as usize].next() {
             Action::Rest => return false,
@@ -225,11 +236,11 @@ impl<M: Machine> World<M> {
     }
 }
 
-/// So many lanes of so many data words, with all their words 0, whose processors rest.
-fn new_lanes(alloc: Global, lanes: u32, words: u32) -> Result<Vec<Lane>, NoMemory>
+/// Lanes 0 to `lanes` - 1 of `words` data words each, with all their words 0, whose processors rest.
+fn make_lanes(alloc: Global, lanes: u32, words: u32) -> Result<Vec<Lane>, NoMemory>
     requires low { 3 ≤ words }
     requires high { words ≤ 512 }
-    ensures { IfOk result (λ made. made.items ≡ fresh_lanes words lanes) }
+    ensures { IfOk result (λ made. made.items ≡ new_lanes words lanes) }
 {
     let mut made = Vec::new(alloc);
     for lane in 0..lanes {

@@ -21,4 +21,5 @@ returns-then-n-words-2 c =
 pub returns : goal.returns
 returns c =
     let r = c.args.receipt.now in
-    answer-status r c.args.n (omega (arith, length-answer_dispatched r c.if-not-receipt.false, c.reply_words-words.ensures, c.requires.there))
+    answer-status r c.args.n
+    (omega (arith, length-answer_dispatched r c.if-not-receipt.false, c.reply_words-words.ensures, c.requires.there))

@@ -1,5 +1,5 @@
 use Rattle.std.proofs.Common.{◌≡◌, ◌≤◌, ◌*◌, take}
-use Rattle.comm_core.specs.Transitions.{records_left}
+use Rattle.comm_core.specs.TransitionsInside.{records_left}
 use Rattle.comm_core.proofs.lane.records_to_come.Given as goal
 
 -- the records of the lanes so far, and their bound

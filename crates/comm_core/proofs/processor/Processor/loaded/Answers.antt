@@ -17,5 +17,8 @@ invariant_of-self c =
     let p = c.self.inside in
     let Q : ProcessorState → Type 0 = λ q. MayLoad q.words q.stage in
     let may : MayLoad p.words p.stage = subst Q (sym c.self.view_is) c.requires in
-    let P : Stage → Type 0 = λ s. IsSound p.words s in
-    (c.self.invariant.0, c.self.invariant.1, subst P (sym c.load.ensures) (fed_sound p.words p.stage (fed.Loaded c.args.value) c.self.invariant.2 may))
+    let P : Stage → Type 0 = λ s. IsSound p.words s in (
+      c.self.invariant.0,
+      c.self.invariant.1,
+      subst P (sym c.load.ensures) (fed_sound p.words p.stage (fed.Loaded c.args.value) c.self.invariant.2 may),
+    )

@@ -10,4 +10,8 @@ returns-in-Storing-clause-within c =
     let p = c.self.inside in
     let P : Stage → Type 0 = λ s. IsSound p.words s in
     let sound = subst P c.in-Storing.is c.self.invariant.2 in
-    omega (arith, c.answer_length.ensures, to_come_within p.words (Storing c.in-Storing.receipt c.in-Storing.stored) c.self.invariant.1 sound)
+    omega (
+      arith,
+      c.answer_length.ensures,
+      to_come_within p.words (Storing c.in-Storing.receipt c.in-Storing.stored) c.self.invariant.1 sound,
+    )

@@ -1,6 +1,7 @@
--- What each step of the code does to a lane and to a world, one after another: what the methods of `Lane` and the private
--- methods of `World` are proved against. This goes the code's way. What a world stands for is said by looking back
--- (`World.antt`, `Capture.antt`), and the proofs lead from here to there.
+-- No public clause cites this file.
+-- What each step of the code does to a lane and to a world: what the methods of `Lane` and the private methods of
+-- `World` are proved against. This goes the code's way. What a world stands for is said by looking back (`World.antt`,
+-- `Capture.antt`), and the proofs lead from here to there.
 use Rattle.std.specs.Prelude.{ℕ, zero, suc, ◌+◌, ◌*◌, if◌then◌else◌, List, [], ◌∷◌, ◌++◌, length, take, replicate, slice_index, slice_index_or, slice_set, sum_by}
 use Rattle.mm_base.specs.Entry.{blank_entry}
 use Rattle.mm_base.specs.Prepared.{PreparedState}
@@ -10,7 +11,7 @@ use Rattle.mm_base.specs.declared.entry.Outcome.{Outcome}
 use Rattle.mm_base.specs.declared.entry.Request.{Request}
 use Rattle.mm_base.specs.declared.receipt.Receipt.{Receipt}
 use Rattle.comm_core.specs.Capture.{longest}
-use Rattle.comm_core.specs.Processor.{next_action, is_resting, to_come, behind_load, behind_store}
+use Rattle.comm_core.specs.Processor.{next_action, is_resting, to_come, after_load, after_store}
 use Rattle.comm_core.specs.declared.action.Action.{Action}
 use Rattle.comm_core.specs.declared.action.Action.TheVariants.{Rest, Load, Turn, Store}
 use Rattle.comm_core.specs.declared.event.Event.{Event}
@@ -24,18 +25,19 @@ use Rattle.comm_core.specs.World.{LaneState, WorldState}
 abbrev pub asked : ℕ → Stage → Request
 asked lane Resting = blank_entry.request
 asked lane (Rung prepared saved) = blank_entry.request
-asked lane (Loading prepared saved len loaded) = record { lane = lane; length = len; bytes = take len prepared.captured.items; saved = saved }
+asked lane (Loading prepared saved len loaded) =
+    record { lane = lane; length = len; bytes = take len prepared.captured.items; saved = saved }
 asked lane (Turning bytes) = blank_entry.request
 asked lane (Storing receipt stored) = blank_entry.request
 
--- a lane of so many data words with all words 0, whose processor rests
+-- a lane of `words` data words with all words 0, whose processor rests
 abbrev pub new_lane : ℕ → ℕ → LaneState
 new_lane words lane = record {
   values = replicate (words + 2) 0;
   processor = record { lane = lane; words = words; stage = Resting };
 }
 
--- so many of them, numbered from 0 on
+-- n of them, numbered from 0 on
 abbrev pub new_lanes : ℕ → ℕ → List LaneState
 new_lanes words zero = []
 new_lanes words (suc n) = new_lanes words n ++ new_lane words n ∷ []
@@ -47,12 +49,12 @@ with_stage seen stage = record {
   processor = record { lane = seen.processor.lane; words = seen.processor.words; stage = stage };
 }
 
--- What a lane is behind a step.
+-- the lane after a step of its processor, or after a poke
 abbrev pub lane_rung : LaneState → PreparedState → Saved → LaneState
 lane_rung seen prepared saved = with_stage seen (Rung prepared saved)
 
 abbrev pub lane_loaded : LaneState → ℕ → LaneState
-lane_loaded seen word = with_stage seen (behind_load seen.processor.stage (slice_index seen.values word))
+lane_loaded seen word = with_stage seen (after_load seen.processor.stage (slice_index seen.values word))
 
 abbrev pub lane_taken : LaneState → ℕ → LaneState
 lane_taken seen bytes = with_stage seen (Turning bytes)
@@ -63,7 +65,8 @@ lane_answered seen receipt = with_stage seen (Storing receipt 0)
 abbrev pub lane_stored : LaneState → ℕ → ℕ → LaneState
 lane_stored seen word value = record {
   values = slice_set seen.values word value;
-  processor = record { lane = seen.processor.lane; words = seen.processor.words; stage = behind_store seen.processor.stage };
+  processor =
+      record { lane = seen.processor.lane; words = seen.processor.words; stage = after_store seen.processor.stage };
 }
 
 abbrev pub lane_poked : LaneState → ℕ → ℕ → LaneState
@@ -81,7 +84,7 @@ no_lane = record { values = []; processor = record { lane = 0; words = 0; stage 
 abbrev pub lane_at : {M : Type 0} → WorldState M → ℕ → LaneState
 lane_at w lane = slice_index_or w.lanes lane no_lane
 
--- What the world is behind an action of the processor of this lane, which is seen so before it.
+-- The world after one action of a lane's processor; `seen` is the lane before it.
 abbrev pub loads_word : {M : Type 0} → WorldState M → ℕ → LaneState → ℕ → WorldState M
 loads_word w lane seen word = record w {
   lanes = slice_set w.lanes lane (lane_loaded seen word);
@@ -118,7 +121,7 @@ abbrev pub acts_times : {M : Type 0} → (M → Request → Outcome × M) → �
 acts_times step lane zero w = w
 acts_times step lane (suc n) w = acts_times step lane n (acts_once step lane w)
 
--- the memory of an entry, for a lane of so many data words and a machine of so many calls
+-- the memory of an entry, for a lane of `words` data words and a machine of `calls` calls
 abbrev pub prepared_for : ℕ → ℕ → PreparedState
 prepared_for words calls = record {
   entry = blank_entry;
@@ -128,10 +131,12 @@ prepared_for words calls = record {
   second = 8 * words;
 }
 
--- What the world is behind an event at this lane, which is seen so before it.
+-- The world after an event at a lane; `seen` is the lane before it.
 abbrev pub rung_at : {M : Type 0} → WorldState M → ℕ → LaneState → PreparedState → Saved → WorldState M
 rung_at w lane seen prepared saved =
-    if is_resting seen.processor.stage then record w { lanes = slice_set w.lanes lane (lane_rung seen prepared saved) } else w
+    if is_resting seen.processor.stage
+    then record w { lanes = slice_set w.lanes lane (lane_rung seen prepared saved) }
+    else w
 
 abbrev pub pokes : {M : Type 0} → WorldState M → ℕ → LaneState → ℕ → ℕ → WorldState M
 pokes w lane seen word value = record w {
@@ -139,8 +144,9 @@ pokes w lane seen word value = record w {
   trace = w.trace ++ Poked lane word value ∷ [];
 }
 
-abbrev pub behind_event : {M : Type 0} → (M → Request → Outcome × M) → (M → ℕ) → WorldState M → Event → WorldState M
-behind_event step calls w (Ring lane saved) = rung_at w lane (lane_at w lane) (prepared_for w.words (calls w.machine)) saved
-behind_event step calls w (Poke lane word value) = pokes w lane (lane_at w lane) word value
-behind_event step calls w (Steps lane count) = acts_times step lane count w
-behind_event step calls w (Run lane) = acts_times step lane (longest w.words) w
+abbrev pub after_event : {M : Type 0} → (M → Request → Outcome × M) → (M → ℕ) → WorldState M → Event → WorldState M
+after_event step calls w (Ring lane saved) =
+    rung_at w lane (lane_at w lane) (prepared_for w.words (calls w.machine)) saved
+after_event step calls w (Poke lane word value) = pokes w lane (lane_at w lane) word value
+after_event step calls w (Steps lane count) = acts_times step lane count w
+after_event step calls w (Run lane) = acts_times step lane (longest w.words) w

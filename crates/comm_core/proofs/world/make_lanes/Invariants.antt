@@ -1,6 +1,6 @@
 use Rattle.std.proofs.Common.{◌≡◌}
-use Rattle.comm_core.specs.Transitions.{new_lanes}
-use Rattle.comm_core.proofs.world.new_lanes.Given as goal
+use Rattle.comm_core.specs.TransitionsInside.{new_lanes}
+use Rattle.comm_core.proofs.world.make_lanes.Given as goal
 
 -- the lanes so far
 abbrev pub invariant-loop-lane : goal.invariant-loop-lane

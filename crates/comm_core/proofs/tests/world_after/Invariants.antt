@@ -1,5 +1,5 @@
 use Rattle.std.proofs.Common.{◌≡◌, length}
-use Rattle.comm_core.proofs.tests.world_behind.Given as goal
+use Rattle.comm_core.proofs.tests.world_after.Given as goal
 
 -- the world keeps its lanes and their data words
 abbrev pub invariant-loop-event : goal.invariant-loop-event
