@@ -1,62 +1,125 @@
 -- A chain under way: what is done so far, and what the handlers that are left give, is the whole.
-use Rattle.std.proofs.Common.{◌≡◌, ℕ, zero, suc, ◌+◌, ◌≤◌, ◌<◌, Bool, true, false, cond, not, if◌then◌else◌, List, [], ◌∷◌, ◌++◌, length, drop, Option, Some, None, slice_get, refl, sym, ap, subst, ◌∙◌, arith, append_assoc, length-append}
+use Rattle.std.proofs.Common.{◌≡◌, ℕ, zero, suc, ◌+◌, ◌≤◌, ◌<◌, Bool, true, false, cond, not, if◌then◌else◌, List, [], ◌∷◌, ◌++◌}
+use Rattle.std.proofs.Common.{length, drop, Option, Some, None, slice_get, refl, sym, ap, subst, ◌∙◌, arith, append_assoc, length-append}
 use Rattle.std.specs.Option.{option_eq, is_some}
 use Rattle.std.proofs.lemmas.List.{append-nil, drop_all}
 use Rattle.mm_base.specs.Guid.{same_guid}
 use Rattle.mm_base.specs.Room.{RoomState}
+use Rattle.mm_base.specs.Statuses.{not_found}
 use Rattle.mm_base.specs.declared.cells.Saved.{Saved}
 use Rattle.mm_base.specs.declared.guid.Guid.{Guid}
 use Rattle.mm_base.specs.declared.handler.Handler.{Handler}
 use Rattle.mm_base.specs.declared.handler.HandlerBody.{HandlerBody}
 use Rattle.mm_base.specs.declared.handler.HandlerBody.TheVariants.{Version, Stub, Code}
 use Rattle.mm_base.specs.declared.invocation.Invocation.{Invocation}
-use Rattle.mm_base.specs.declared.invocation.Ended.TheVariants.{Returned}
-use Rattle.mm_base.specs.declared.status.TheConstants.{NOT_FOUND}
 use Rattle.mmi_registry.specs.ChainLaws.{result_from}
-use Rattle.mmi_registry.specs.ChainRule.{stops, result_behind}
+use Rattle.mmi_registry.specs.ChainRule.{stops, result_after}
 use Rattle.mmi_registry.specs.Handlers.{chain_of}
-use Rattle.mm_core.specs.Buffered.{Buffered}
+use Rattle.mm_core.specs.BufferInside.{BufferState}
+use Rattle.mm_core.specs.ChainInside.{is_root, IsGiven, managed}
 use Rattle.mm_core.specs.CoreState.{CoreState}
-use Rattle.mm_core.specs.HandlerChain.{runs_of, through_stop, invocations_of, statuses_of, message_behind}
-use Rattle.mm_core.specs.Invoked.{Message, Answer, Invoked, no_message, answer_of}
-use Rattle.mm_core.specs.ManagedChain.{is_root, IsGiven, managed}
+use Rattle.mm_core.specs.HandlerChain.{runs_of, through_stop, invocations_of, statuses_of, message_after}
+use Rattle.mm_core.specs.Invoked.{Message, Answer, Invoked, no_message, answer_of, returned}
+
+-- what the handlers are called with: of which core, which of them, and what there was at the start
+pub record Start : Type 0 where
+  pub core : CoreState
+  pub guid : Option Guid
+  pub saved : Saved
+  pub buffer : BufferState
+  pub made : RoomState Invocation
+  pub blanks : ℕ
+
+-- what the code holds on the way: the result so far, the buffer, the invocations that were made, and the blanks that are left
+pub record Held : Type 0 where
+  pub result : ℕ
+  pub buffer : BufferState
+  pub made : RoomState Invocation
+  pub blanks : ℕ
+
+-- what it holds at the start
+abbrev pub at_first : Start → Held
+at_first start = record { result = not_found; buffer = start.buffer; made = start.made; blanks = start.blanks }
+
+-- the handlers of the chain from place k of all on
+abbrev rest_of : Start → ℕ → List Handler
+rest_of start k = chain_of start.guid (drop k start.core.site.handlers)
+
+-- the runs of these handlers, which are left
+abbrev runs_left : Start → List Handler → Message → List Invoked
+runs_left start handlers message =
+    through_stop (is_root start.guid) (runs_of (is_root start.guid) start.core.site start.saved handlers message start.core.live)
 
 -- the runs that are left at place k, with this message
-unfoldable pub left_at : CoreState → Option Guid → Saved → ℕ → Message → List Invoked
-left_at core guid saved k message =
-    through_stop (is_root guid) (runs_of (is_root guid) core.site saved (chain_of guid (drop k core.site.handlers)) message core.live)
+unfoldable pub left_at : Start → ℕ → Message → List Invoked
+left_at start k message = runs_left start (rest_of start k) message
 
--- the invocation of a handler that returned this status
-abbrev pub returned : Handler → ℕ → Invocation
-returned handler status = record { handler = handler.number; ended = Returned status; denials = []; writes = [] }
+-- all runs of the chain
+abbrev whole : Start → List Invoked
+whole start = managed start.core start.guid start.saved start.buffer.message
+
+-- what a chain with these runs comes to from a result on
+abbrev comes_to : Start → ℕ → List Invoked → ℕ
+comes_to start result runs = result_from (is_root start.guid) result (statuses_of runs)
 
 -- a run that leaves this answer
 abbrev run_of : CoreState → Handler → Answer → Invoked
 run_of core handler answer = record { invocation = returned handler answer.status; message = answer.message; live = core.live }
 
--- what is kept at place k of the handlers, from the buffer, invocations and blanks of the start on
-pub record Halfway (core : CoreState) (guid : Option Guid) (saved : Saved) (first : Buffered) (before : RoomState Invocation) (most k so_far : ℕ) (held : Buffered) (made : RoomState Invocation) (left : ℕ) : Type 0 where
-  pub given : IsGiven (is_root guid) held.message
-  pub result : result_from (is_root guid) NOT_FOUND (statuses_of (managed core guid saved first.message)) ≡ result_from (is_root guid) so_far (statuses_of (left_at core guid saved k held.message))
-  pub message : message_behind first.message (managed core guid saved first.message) ≡ message_behind held.message (left_at core guid saved k held.message)
-  pub buffer : held ≡ record first { message = held.message }
-  pub invocations : before.items ++ invocations_of (managed core guid saved first.message) ≡ made.items ++ invocations_of (left_at core guid saved k held.message)
-  pub room : made.room ≡ before.room
-  pub place : length made.items + length (chain_of guid (drop k core.site.handlers)) ≤ made.room
-  pub blanks : left + length (managed core guid saved first.message) ≡ most + length (left_at core guid saved k held.message)
-  pub enough : length (chain_of guid (drop k core.site.handlers)) ≤ left
+-- what holds at place k of the handlers
+pub record Halfway (start : Start) (k : ℕ) (held : Held) : Type 0 where
+  pub given : IsGiven (is_root start.guid) held.buffer.message
+  pub result : comes_to start not_found (whole start) ≡ comes_to start held.result (left_at start k held.buffer.message)
+  pub message : message_after start.buffer.message (whole start) ≡ message_after held.buffer.message (left_at start k held.buffer.message)
+  pub buffer : held.buffer ≡ record start.buffer { message = held.buffer.message }
+  pub invocations : start.made.items ++ invocations_of (whole start)
+      ≡ held.made.items ++ invocations_of (left_at start k held.buffer.message)
+  pub room : held.made.room ≡ start.made.room
+  pub place : length held.made.items + length (rest_of start k) ≤ held.made.room
+  pub blanks : held.blanks + length (whole start) ≡ start.blanks + length (left_at start k held.buffer.message)
+  pub enough : length (rest_of start k) ≤ held.blanks
 
--- what stands at the end of the chain
-pub record Managed (core : CoreState) (guid : Option Guid) (saved : Saved) (first : Buffered) (before : RoomState Invocation) (most so_far : ℕ) (held : Buffered) (made : RoomState Invocation) (left : ℕ) : Type 0 where
-  pub result : so_far ≡ result_from (is_root guid) NOT_FOUND (statuses_of (managed core guid saved first.message))
-  pub message : held ≡ record first { message = message_behind first.message (managed core guid saved first.message) }
-  pub invocations : made ≡ record { items = before.items ++ invocations_of (managed core guid saved first.message); room = before.room }
-  pub blanks : left + length (managed core guid saved first.message) ≡ most
+-- what holds at the end of the chain
+pub record Managed (start : Start) (held : Held) : Type 0 where
+  pub result : held.result ≡ comes_to start not_found (whole start)
+  pub message : held.buffer ≡ record start.buffer { message = message_after start.buffer.message (whole start) }
+  pub invocations : held.made ≡ record { items = start.made.items ++ invocations_of (whole start); room = start.made.room }
+  pub blanks : held.blanks + length (whole start) ≡ start.blanks
+
+-- the handler at place k, and those after it
+drop-slice_get : (handlers : List Handler) (k : ℕ) (handler : Handler) → slice_get handlers k ≡ Some handler
+    → drop k handlers ≡ handler ∷ drop (k + 1) handlers
+drop-slice_get [] k handler found = absurd (cc)
+drop-slice_get (first ∷ handlers) zero handler found = ap (λ h. h ∷ handlers) (cc)
+drop-slice_get (first ∷ handlers) (suc k) handler found =
+    let e : suc (k + 1) ≡ suc k + 1 = omega arith in
+    drop-slice_get handlers k handler found ∙ ap (λ n. handler ∷ drop n (first ∷ handlers)) e
+
+-- a root handler leaves no message, as it was given none
+pub answer_of-no_message : (body : HandlerBody) → (answer_of body no_message).message ≡ no_message
+answer_of-no_message Version = refl
+answer_of-no_message (Stub status) = refl
+answer_of-no_message (Code image address) = refl
+
+given_after : (root : Bool) (body : HandlerBody) (message : Message) → IsGiven root message → IsGiven root (answer_of body message).message
+given_after false body message given = refl
+given_after true body message given = sym (ap (λ m. (answer_of body m).message) (sym given) ∙ answer_of-no_message body)
+
+-- no GUID is given where the root handlers are called
+pub root_is : (guid : Option Guid) (root : Bool) → is_some guid ≡ not root → root ≡ is_root guid
+root_is None true h = refl
+root_is None false h = absurd (cc)
+root_is (Some guid) true h = absurd (cc)
+root_is (Some guid) false h = refl
+
+-- ---- the start and the end
 
 -- at the start all handlers are left
-pub at_start : (core : CoreState) (guid : Option Guid) (saved : Saved) (first : Buffered) (before : RoomState Invocation) (blanks : ℕ) → IsGiven (is_root guid) first.message → length before.items + length (chain_of guid core.site.handlers) ≤ before.room → length (chain_of guid core.site.handlers) ≤ blanks → Halfway core guid saved first before blanks 0 NOT_FOUND first before blanks
+pub at_start : (start : Start) → IsGiven (is_root start.guid) start.buffer.message
+    → length start.made.items + length (chain_of start.guid start.core.site.handlers) ≤ start.made.room
+    → length (chain_of start.guid start.core.site.handlers) ≤ start.blanks → Halfway start 0 (at_first start)
 unfolding left_at managed
-at_start core guid saved first before blanks given place enough = record {
+at_start start given place enough = record {
   given = given;
   result = refl;
   message = refl;
@@ -68,184 +131,181 @@ at_start core guid saved first before blanks given place enough = record {
   enough = enough;
 }
 
--- where nothing is left, the chain is done
-done : (core : CoreState) (guid : Option Guid) (saved : Saved) (first : Buffered) (before : RoomState Invocation) (blanks k result : ℕ) (buffer : Buffered) (invocations : RoomState Invocation) (left : ℕ) → left_at core guid saved k buffer.message ≡ [] → Halfway core guid saved first before blanks k result buffer invocations left → Managed core guid saved first before blanks result buffer invocations left
-done core guid saved first before blanks k result buffer invocations left none halfway =
-    let items : before.items ++ invocations_of (managed core guid saved first.message) ≡ invocations.items = halfway.invocations ∙ ap (λ runs. invocations.items ++ invocations_of runs) none ∙ append-nil invocations.items in
+module _ (start : Start) (k : ℕ) (held : Held) (halfway : Halfway start k held) where
+  -- where nothing is left, the chain is done
+  done : left_at start k held.buffer.message ≡ [] → Managed start held
+  done none =
+      let items : start.made.items ++ invocations_of (whole start) ≡ held.made.items =
+      halfway.invocations ∙ ap (λ runs. held.made.items ++ invocations_of runs) none ∙ append-nil held.made.items in
+      let message : message_after start.buffer.message (whole start) ≡ held.buffer.message =
+      halfway.message ∙ ap (message_after held.buffer.message) none in
+      record {
+        result = sym (halfway.result ∙ ap (comes_to start held.result) none);
+        message = halfway.buffer ∙ ap (λ (m : Message). record start.buffer { message = m }) (sym message);
+        invocations = λ i. record { items = sym items i; room = halfway.room i };
+        blanks = omega (arith, halfway.blanks, ap length none);
+      }
+
+  -- past the last handler the chain is done
+  pub at_end : length start.core.site.handlers ≤ k → Managed start held
+  unfolding left_at
+  at_end past =
+      done (ap (λ handlers. runs_left start (chain_of start.guid handlers) held.buffer.message) (drop_all k start.core.site.handlers past))
+
+-- ---- one handler
+
+-- the handler at place k, which is of the chain or not
+module _ (start : Start) (k : ℕ) (handler : Handler) (found : slice_get start.core.site.handlers k ≡ Some handler) where
+  chosen_at : (own : Bool) → option_eq same_guid handler.guid start.guid ≡ own
+      → rest_of start k ≡ cond own (handler ∷ rest_of start (k + 1)) (rest_of start (k + 1))
+  chosen_at own e =
+      ap (chain_of start.guid) (drop-slice_get start.core.site.handlers k handler found)
+      ∙ ap (λ c. cond c (handler ∷ rest_of start (k + 1)) (rest_of start (k + 1))) e
+
+  -- a handler of another chain changes nothing
+  passed : option_eq same_guid handler.guid start.guid ≡ false → (held : Held) → Halfway start k held → Halfway start (k + 1) held
+  unfolding left_at
+  passed other held halfway =
+      let same : rest_of start k ≡ rest_of start (k + 1) = chosen_at false other in
+      let runs : left_at start k held.buffer.message ≡ left_at start (k + 1) held.buffer.message =
+      ap (λ chosen. runs_left start chosen held.buffer.message) same in
+      record {
+        given = halfway.given;
+        result = halfway.result ∙ ap (comes_to start held.result) runs;
+        message = halfway.message ∙ ap (message_after held.buffer.message) runs;
+        buffer = halfway.buffer;
+        invocations = halfway.invocations ∙ ap (λ rest. held.made.items ++ invocations_of rest) runs;
+        room = halfway.room;
+        place = omega (arith, halfway.place, ap length same);
+        blanks = omega (arith, halfway.blanks, ap length runs);
+        enough = omega (arith, halfway.enough, ap length same);
+      }
+
+  -- after a handler that isn't called
+  pub goes_past : option_eq same_guid handler.guid start.guid ≡ false → (held after : Held) → Halfway start k held
+      → after ≡ held → Halfway start (k + 1) after
+  goes_past other held after halfway same = subst (Halfway start (k + 1)) (sym same) (passed other held halfway)
+
+-- what the code holds after a handler of the chain, with these blanks left
+abbrev held_after : Start → Held → Handler → ℕ → Held
+held_after start held handler blanks =
+    let answer = answer_of handler.body held.buffer.message in
     record {
-      result = sym (halfway.result ∙ ap (λ runs. result_from (is_root guid) result (statuses_of runs)) none);
-      message = halfway.buffer ∙ ap (λ (m : Message). record first { message = m }) (sym (halfway.message ∙ ap (message_behind buffer.message) none));
-      invocations = ap (λ (room : ℕ). record { items = invocations.items; room = room }) halfway.room ∙ ap (λ (items : List Invocation). record { items = items; room = before.room }) (sym items);
-      blanks = omega (arith, halfway.blanks, ap length none);
+      result = result_after (is_root start.guid) held.result answer.status;
+      buffer = record held.buffer { message = answer.message };
+      made = record { items = held.made.items ++ returned handler answer.status ∷ []; room = held.made.room };
+      blanks = blanks;
     }
 
--- past the last handler the chain is done
-pub at_end : (core : CoreState) (guid : Option Guid) (saved : Saved) (first : Buffered) (before : RoomState Invocation) (blanks k result : ℕ) (buffer : Buffered) (invocations : RoomState Invocation) (left : ℕ) → length core.site.handlers ≤ k → Halfway core guid saved first before blanks k result buffer invocations left → Managed core guid saved first before blanks result buffer invocations left
-unfolding left_at
-at_end core guid saved first before blanks k result buffer invocations left past halfway =
-    done core guid saved first before blanks k result buffer invocations left
-    (ap (λ handlers. through_stop (is_root guid) (runs_of (is_root guid) core.site saved (chain_of guid handlers) buffer.message core.live)) (drop_all k core.site.handlers past))
-    halfway
+module _ (start : Start) (k : ℕ) (handler : Handler) (found : slice_get start.core.site.handlers k ≡ Some handler)
+    (own : option_eq same_guid handler.guid start.guid ≡ true) (held : Held) (halfway : Halfway start k held) where
+  chosen : rest_of start k ≡ handler ∷ rest_of start (k + 1)
+  chosen = chosen_at start k handler found true own
 
--- the handler at place k, and those behind it
-drop-slice_get : (handlers : List Handler) (k : ℕ) (handler : Handler) → slice_get handlers k ≡ Some handler → drop k handlers ≡ handler ∷ drop (k + 1) handlers
-drop-slice_get [] k handler found = absurd (cc)
-drop-slice_get (first ∷ handlers) zero handler found = ap (λ h. h ∷ handlers) (cc)
-drop-slice_get (first ∷ handlers) (suc k) handler found =
-    let e : suc (k + 1) ≡ suc k + 1 = omega arith in
-    drop-slice_get handlers k handler found ∙ ap (λ n. handler ∷ drop n (first ∷ handlers)) e
+  -- there is place for a handler of the chain
+  pub has_place : (length held.made.items < held.made.room) × (0 < held.blanks)
+  has_place = (omega (arith, halfway.place, ap length chosen), omega (arith, halfway.enough, ap length chosen))
 
-chosen_at : (guid : Option Guid) (handlers : List Handler) (k : ℕ) (handler : Handler) (b : Bool) → slice_get handlers k ≡ Some handler → option_eq same_guid handler.guid guid ≡ b → chain_of guid (drop k handlers) ≡ cond b (handler ∷ chain_of guid (drop (k + 1) handlers)) (chain_of guid (drop (k + 1) handlers))
-chosen_at guid handlers k handler b found e =
-    ap (chain_of guid) (drop-slice_get handlers k handler found)
-    ∙ ap (λ c. cond c (handler ∷ chain_of guid (drop (k + 1) handlers)) (chain_of guid (drop (k + 1) handlers))) e
+  -- the runs that are left: its own, and those after it unless it stops the chain
+  runs_with : (stopped : Bool) → stops (is_root start.guid) (answer_of handler.body held.buffer.message).status ≡ stopped
+      → (let answer = answer_of handler.body held.buffer.message in
+      left_at start k held.buffer.message
+      ≡ run_of start.core handler answer ∷ (if stopped then [] else left_at start (k + 1) answer.message))
+  unfolding left_at
+  runs_with stopped is =
+      let After : Answer → Bool → List Invoked = λ answer stopped.
+      run_of start.core handler answer ∷ (if stopped then [] else runs_left start (rest_of start (k + 1)) answer.message) in
+      ap (λ handlers. runs_left start handlers held.buffer.message) chosen
+      ∙ ap (λ (m : Message). After (answer_of handler.body m) (stops (is_root start.guid) (answer_of handler.body m).status)) halfway.given
+      ∙ ap (After (answer_of handler.body held.buffer.message)) is
 
--- a handler of another chain changes nothing
-pub passed : (core : CoreState) (guid : Option Guid) (saved : Saved) (first : Buffered) (before : RoomState Invocation) (blanks k result : ℕ) (buffer : Buffered) (invocations : RoomState Invocation) (left : ℕ) (handler : Handler) → slice_get core.site.handlers k ≡ Some handler → option_eq same_guid handler.guid guid ≡ false → Halfway core guid saved first before blanks k result buffer invocations left → Halfway core guid saved first before blanks (k + 1) result buffer invocations left
-unfolding left_at
-passed core guid saved first before blanks k result buffer invocations left handler found other halfway =
-    let same : chain_of guid (drop k core.site.handlers) ≡ chain_of guid (drop (k + 1) core.site.handlers) = chosen_at guid core.site.handlers k handler false found other in
-    let runs : left_at core guid saved k buffer.message ≡ left_at core guid saved (k + 1) buffer.message =
-    ap (λ chosen. through_stop (is_root guid) (runs_of (is_root guid) core.site saved chosen buffer.message core.live)) same in
-    record {
-      given = halfway.given;
-      result = halfway.result ∙ ap (λ rest. result_from (is_root guid) result (statuses_of rest)) runs;
-      message = halfway.message ∙ ap (message_behind buffer.message) runs;
-      buffer = halfway.buffer;
-      invocations = halfway.invocations ∙ ap (λ rest. invocations.items ++ invocations_of rest) runs;
-      room = halfway.room;
-      place = omega (arith, halfway.place, ap length same);
-      blanks = omega (arith, halfway.blanks, ap length runs);
-      enough = omega (arith, halfway.enough, ap length same);
-    }
+  -- a handler of the chain that doesn't stop it
+  called : (blanks : ℕ) → blanks + 1 ≡ held.blanks
+      → stops (is_root start.guid) (answer_of handler.body held.buffer.message).status ≡ false
+      → Halfway start (k + 1) (held_after start held handler blanks)
+  called blanks fewer goes_on =
+      let answer = answer_of handler.body held.buffer.message in
+      let rest = left_at start (k + 1) answer.message in
+      let next = result_after (is_root start.guid) held.result answer.status in
+      let runs : left_at start k held.buffer.message ≡ run_of start.core handler answer ∷ rest = runs_with false goes_on in
+      record {
+        given = given_after (is_root start.guid) handler.body held.buffer.message halfway.given;
+        result =
+            halfway.result ∙ ap (comes_to start held.result) runs
+            ∙ ap (λ (b : Bool). if b then next else comes_to start next rest) goes_on;
+        message = halfway.message ∙ ap (message_after held.buffer.message) runs;
+        buffer = ap (λ (b : BufferState). record b { message = answer.message }) halfway.buffer;
+        invocations =
+            halfway.invocations ∙ ap (λ rest'. held.made.items ++ invocations_of rest') runs
+            ∙ sym (append_assoc held.made.items (returned handler answer.status ∷ []) (invocations_of rest));
+        room = halfway.room;
+        place = omega (arith, halfway.place, ap length chosen, length-append held.made.items (returned handler answer.status ∷ []));
+        blanks = omega (arith, halfway.blanks, ap length runs);
+        enough = omega (arith, halfway.enough, ap length chosen);
+      }
 
--- the runs that are left, where the handler at place k is of the chain: its own, and those behind it unless it stops the chain
-left_at-called : (core : CoreState) (guid : Option Guid) (saved : Saved) (k : ℕ) (message : Message) (handler : Handler) → slice_get core.site.handlers k ≡ Some handler → option_eq same_guid handler.guid guid ≡ true → IsGiven (is_root guid) message
-    → (let answer = answer_of handler.body message in
-    left_at core guid saved k message ≡ run_of core handler answer ∷ (if stops (is_root guid) answer.status then [] else left_at core guid saved (k + 1) answer.message))
-unfolding left_at
-left_at-called core guid saved k message handler found own given =
-    let rest = chain_of guid (drop (k + 1) core.site.handlers) in
-    ap (λ chosen. through_stop (is_root guid) (runs_of (is_root guid) core.site saved chosen message core.live)) (chosen_at guid core.site.handlers k handler true found own)
-    ∙ ap (λ (m : Message). run_of core handler (answer_of handler.body m) ∷ (if stops (is_root guid) (answer_of handler.body m).status then [] else through_stop (is_root guid) (runs_of (is_root guid) core.site saved rest (answer_of handler.body m).message core.live))) given
+  -- one that stops it
+  stopped : (blanks : ℕ) → blanks + 1 ≡ held.blanks
+      → stops (is_root start.guid) (answer_of handler.body held.buffer.message).status ≡ true
+      → Managed start (held_after start held handler blanks)
+  stopped blanks fewer stops_here =
+      let answer = answer_of handler.body held.buffer.message in
+      let next = result_after (is_root start.guid) held.result answer.status in
+      let runs : left_at start k held.buffer.message ≡ run_of start.core handler answer ∷ [] = runs_with true stops_here in
+      let message : message_after start.buffer.message (whole start) ≡ answer.message =
+      halfway.message ∙ ap (message_after held.buffer.message) runs in
+      let items : start.made.items ++ invocations_of (whole start) ≡ held.made.items ++ returned handler answer.status ∷ [] =
+      halfway.invocations ∙ ap (λ rest'. held.made.items ++ invocations_of rest') runs in
+      record {
+        result = sym (halfway.result ∙ ap (comes_to start held.result) runs ∙ ap (λ (b : Bool). if b then next else next) stops_here);
+        message =
+            ap (λ (b : BufferState). record b { message = answer.message }) halfway.buffer
+            ∙ ap (λ (m : Message). record start.buffer { message = m }) (sym message);
+        invocations = λ i. record { items = sym items i; room = halfway.room i };
+        blanks = omega (arith, halfway.blanks, ap length runs);
+      }
 
--- a root handler leaves no message, as it was given none
-pub answer_of-no_message : (body : HandlerBody) → (answer_of body no_message).message ≡ no_message
-answer_of-no_message Version = refl
-answer_of-no_message (Stub status) = refl
-answer_of-no_message (Code image address) = refl
+-- ---- one call, as the code knows it
 
-given_behind : (root : Bool) (body : HandlerBody) (message : Message) → IsGiven root message → IsGiven root (answer_of body message).message
-given_behind false body message given = refl
-given_behind true body message given = sym (ap (λ m. (answer_of body m).message) (sym given) ∙ answer_of-no_message body)
+-- of a handler of the chain at place k: what it returned, and what the code holds after it
+pub record Call (start : Start) (held : Held) (handler : Handler) (root : Bool) (status : ℕ) (after : Held) : Type 0 where
+  pub kind : root ≡ is_root start.guid
+  pub status_is : status ≡ (answer_of handler.body held.buffer.message).status
+  pub result_is : after.result ≡ result_after root held.result status
+  pub buffer_is : after.buffer ≡ record held.buffer { message = (answer_of handler.body held.buffer.message).message }
+  pub made_is : after.made ≡ record {
+    items = held.made.items ++ returned handler (answer_of handler.body held.buffer.message).status ∷ [];
+    room = held.made.room;
+  }
+  pub blanks_are : after.blanks + 1 ≡ held.blanks
 
--- a handler of the chain that doesn't stop it
-pub called : (core : CoreState) (guid : Option Guid) (saved : Saved) (first : Buffered) (before : RoomState Invocation) (blanks k result : ℕ) (buffer : Buffered) (invocations : RoomState Invocation) (left : ℕ) (handler : Handler) → slice_get core.site.handlers k ≡ Some handler → option_eq same_guid handler.guid guid ≡ true
-    → (let answer = answer_of handler.body buffer.message in
-    stops (is_root guid) answer.status ≡ false → (behind : ℕ) → behind + 1 ≡ left → Halfway core guid saved first before blanks k result buffer invocations left
-    → Halfway core guid saved first before blanks (k + 1) (result_behind (is_root guid) result answer.status) (record buffer { message = answer.message }) (record { items = invocations.items ++ returned handler answer.status ∷ []; room = invocations.room }) behind)
-called core guid saved first before blanks k result buffer invocations left handler found own goes_on behind fewer halfway =
-    let answer = answer_of handler.body buffer.message in
-    let run = run_of core handler answer in
-    let rest = left_at core guid saved (k + 1) answer.message in
-    let runs : left_at core guid saved k buffer.message ≡ run ∷ rest =
-    left_at-called core guid saved k buffer.message handler found own halfway.given ∙ ap (λ (b : Bool). run ∷ (if b then [] else rest)) goes_on in
-    let chosen : chain_of guid (drop k core.site.handlers) ≡ handler ∷ chain_of guid (drop (k + 1) core.site.handlers) = chosen_at guid core.site.handlers k handler true found own in
-    record {
-      given = given_behind (is_root guid) handler.body buffer.message halfway.given;
-      result = halfway.result ∙ ap (λ rest'. result_from (is_root guid) result (statuses_of rest')) runs ∙ ap (λ (b : Bool). if b then result_behind (is_root guid) result answer.status else result_from (is_root guid) (result_behind (is_root guid) result answer.status) (statuses_of rest)) goes_on;
-      message = halfway.message ∙ ap (message_behind buffer.message) runs;
-      buffer = ap (λ (b : Buffered). record b { message = answer.message }) halfway.buffer;
-      invocations = halfway.invocations ∙ ap (λ rest'. invocations.items ++ invocations_of rest') runs ∙ sym (append_assoc invocations.items (returned handler answer.status ∷ []) (invocations_of rest));
-      room = halfway.room;
-      place = omega (arith, halfway.place, ap length chosen, length-append invocations.items (returned handler answer.status ∷ []));
-      blanks = omega (arith, halfway.blanks, ap length runs);
-      enough = omega (arith, halfway.enough, ap length chosen);
-    }
+module _ (start : Start) (held : Held) (handler : Handler) (root : Bool) (status : ℕ) (after : Held)
+    (call : Call start held handler root status after) where
+  after_is : held_after start held handler after.blanks ≡ after
+  after_is =
+      let answer = answer_of handler.body held.buffer.message in
+      let result : after.result ≡ result_after (is_root start.guid) held.result answer.status =
+      call.result_is ∙ ap (λ r. result_after r held.result status) call.kind
+      ∙ ap (result_after (is_root start.guid) held.result) call.status_is in
+      sym (λ i. record { result = result i; buffer = call.buffer_is i; made = call.made_is i; blanks = after.blanks })
 
--- there is place for a handler of the chain
-pub has_place : (core : CoreState) (guid : Option Guid) (saved : Saved) (first : Buffered) (before : RoomState Invocation) (blanks k result : ℕ) (buffer : Buffered) (invocations : RoomState Invocation) (left : ℕ) (handler : Handler) → slice_get core.site.handlers k ≡ Some handler → option_eq same_guid handler.guid guid ≡ true → Halfway core guid saved first before blanks k result buffer invocations left → (length invocations.items < invocations.room) × (0 < left)
-has_place core guid saved first before blanks k result buffer invocations left handler found own halfway =
-    let chosen : chain_of guid (drop k core.site.handlers) ≡ handler ∷ chain_of guid (drop (k + 1) core.site.handlers) = chosen_at guid core.site.handlers k handler true found own in
-    (omega (arith, halfway.place, ap length chosen), omega (arith, halfway.enough, ap length chosen))
+  stops_as : (b : Bool) → stops root status ≡ b → stops (is_root start.guid) (answer_of handler.body held.buffer.message).status ≡ b
+  stops_as b is = ap (stops (is_root start.guid)) (sym call.status_is) ∙ ap (λ r. stops r status) (sym call.kind) ∙ is
 
--- a handler of the chain that stops it
-pub stopped : (core : CoreState) (guid : Option Guid) (saved : Saved) (first : Buffered) (before : RoomState Invocation) (blanks k result : ℕ) (buffer : Buffered) (invocations : RoomState Invocation) (left : ℕ) (handler : Handler) → slice_get core.site.handlers k ≡ Some handler → option_eq same_guid handler.guid guid ≡ true
-    → (let answer = answer_of handler.body buffer.message in
-    stops (is_root guid) answer.status ≡ true → (behind : ℕ) → behind + 1 ≡ left → Halfway core guid saved first before blanks k result buffer invocations left
-    → Managed core guid saved first before blanks (result_behind (is_root guid) result answer.status) (record buffer { message = answer.message }) (record { items = invocations.items ++ returned handler answer.status ∷ []; room = invocations.room }) behind)
-stopped core guid saved first before blanks k result buffer invocations left handler found own stops_here behind fewer halfway =
-    let answer = answer_of handler.body buffer.message in
-    let run = run_of core handler answer in
-    let rest = left_at core guid saved (k + 1) answer.message in
-    let runs : left_at core guid saved k buffer.message ≡ run ∷ [] =
-    left_at-called core guid saved k buffer.message handler found own halfway.given ∙ ap (λ (b : Bool). run ∷ (if b then [] else rest)) stops_here in
-    let result_is : result_from (is_root guid) NOT_FOUND (statuses_of (managed core guid saved first.message)) ≡ result_behind (is_root guid) result answer.status =
-    halfway.result ∙ ap (λ rest'. result_from (is_root guid) result (statuses_of rest')) runs ∙ ap (λ (b : Bool). if b then result_behind (is_root guid) result answer.status else result_behind (is_root guid) result answer.status) stops_here in
-    let items : before.items ++ invocations_of (managed core guid saved first.message) ≡ invocations.items ++ returned handler answer.status ∷ [] = halfway.invocations ∙ ap (λ rest'. invocations.items ++ invocations_of rest') runs in
-    record {
-      result = sym result_is;
-      message = ap (λ (b : Buffered). record b { message = answer.message }) halfway.buffer ∙ ap (λ (m : Message). record first { message = m }) (sym (halfway.message ∙ ap (message_behind buffer.message) runs));
-      invocations = ap (λ (room : ℕ). record { items = invocations.items ++ returned handler answer.status ∷ []; room = room }) halfway.room ∙ ap (λ (items' : List Invocation). record { items = items'; room = before.room }) (sym items);
-      blanks = omega (arith, halfway.blanks, ap length runs);
-    }
+module _ (start : Start) (k : ℕ) (handler : Handler) (found : slice_get start.core.site.handlers k ≡ Some handler)
+    (own : option_eq same_guid handler.guid start.guid ≡ true) where
+  -- after a call that goes on
+  pub goes_on : (held : Held) (root : Bool) (status : ℕ) (after : Held) → Halfway start k held → Call start held handler root status after
+      → stops root status ≡ false → Halfway start (k + 1) after
+  goes_on held root status after halfway call is =
+      subst (Halfway start (k + 1)) (after_is start held handler root status after call)
+      (called start k handler found own held halfway after.blanks call.blanks_are
+      (stops_as start held handler root status after call false is))
 
--- no GUID is given where the root handlers are called
-pub root_is : (guid : Option Guid) (root : Bool) → is_some guid ≡ not root → root ≡ is_root guid
-root_is None true h = refl
-root_is None false h = absurd (cc)
-root_is (Some guid) true h = absurd (cc)
-root_is (Some guid) false h = refl
-
--- what the code knows of a handler of the chain that it called at place k
-pub record Call (core : CoreState) (guid : Option Guid) (k so_far : ℕ) (held : Buffered) (made : RoomState Invocation) (left : ℕ) (handler : Handler) (root : Bool) (status behind : ℕ) (held_behind : Buffered) (made_behind : RoomState Invocation) (left_behind : ℕ) : Type 0 where
-  pub found : slice_get core.site.handlers k ≡ Some handler
-  pub own : option_eq same_guid handler.guid guid ≡ true
-  pub kind : root ≡ is_root guid
-  pub status_is : status ≡ (answer_of handler.body held.message).status
-  pub held_is : held_behind ≡ record held { message = (answer_of handler.body held.message).message }
-  pub made_is : made_behind ≡ record { items = made.items ++ returned handler (answer_of handler.body held.message).status ∷ []; room = made.room }
-  pub left_is : left_behind + 1 ≡ left
-  pub behind_is : behind ≡ result_behind root so_far status
-
-call_behind : (core : CoreState) (guid : Option Guid) (k so_far : ℕ) (held : Buffered) (made : RoomState Invocation) (left : ℕ) (handler : Handler) (root : Bool) (status behind : ℕ) (held_behind : Buffered) (made_behind : RoomState Invocation) (left_behind : ℕ) → Call core guid k so_far held made left handler root status behind held_behind made_behind left_behind → behind ≡ result_behind (is_root guid) so_far (answer_of handler.body held.message).status
-call_behind core guid k so_far held made left handler root status behind held_behind made_behind left_behind call =
-    call.behind_is ∙ ap (λ r. result_behind r so_far status) call.kind ∙ ap (result_behind (is_root guid) so_far) call.status_is
-
-call_stops : (core : CoreState) (guid : Option Guid) (k so_far : ℕ) (held : Buffered) (made : RoomState Invocation) (left : ℕ) (handler : Handler) (root : Bool) (status behind : ℕ) (held_behind : Buffered) (made_behind : RoomState Invocation) (left_behind : ℕ) → Call core guid k so_far held made left handler root status behind held_behind made_behind left_behind → (b : Bool) → stops root status ≡ b → stops (is_root guid) (answer_of handler.body held.message).status ≡ b
-call_stops core guid k so_far held made left handler root status behind held_behind made_behind left_behind call b is =
-    ap (stops (is_root guid)) (sym call.status_is) ∙ ap (λ r. stops r status) (sym call.kind) ∙ is
-
--- behind a call that goes on
-pub goes_on : (core : CoreState) (guid : Option Guid) (saved : Saved) (first : Buffered) (before : RoomState Invocation) (most k so_far : ℕ) (held : Buffered) (made : RoomState Invocation) (left : ℕ) (handler : Handler) (root : Bool) (status behind : ℕ) (held_behind : Buffered) (made_behind : RoomState Invocation) (left_behind : ℕ) → Halfway core guid saved first before most k so_far held made left → Call core guid k so_far held made left handler root status behind held_behind made_behind left_behind → stops root status ≡ false → Halfway core guid saved first before most (k + 1) behind held_behind made_behind left_behind
-goes_on core guid saved first before most k so_far held made left handler root status behind held_behind made_behind left_behind halfway call is =
-    let answer = answer_of handler.body held.message in
-    let At : ℕ → Buffered → RoomState Invocation → Type 0 = λ r h m. Halfway core guid saved first before most (k + 1) r h m left_behind in
-    let r : ℕ = result_behind (is_root guid) so_far answer.status in
-    let h : Buffered = record held { message = answer.message } in
-    subst (λ (r' : ℕ). At r' held_behind made_behind) (sym (call_behind core guid k so_far held made left handler root status behind held_behind made_behind left_behind call))
-    (subst (λ (h' : Buffered). At r h' made_behind) (sym call.held_is)
-    (subst (At r h) (sym call.made_is)
-    (called core guid saved first before most k so_far held made left handler call.found call.own (call_stops core guid k so_far held made left handler root status behind held_behind made_behind left_behind call false is) left_behind call.left_is halfway)))
-
--- behind a call that stops the chain
-pub ends : (core : CoreState) (guid : Option Guid) (saved : Saved) (first : Buffered) (before : RoomState Invocation) (most k so_far : ℕ) (held : Buffered) (made : RoomState Invocation) (left : ℕ) (handler : Handler) (root : Bool) (status behind : ℕ) (held_behind : Buffered) (made_behind : RoomState Invocation) (left_behind : ℕ) → Halfway core guid saved first before most k so_far held made left → Call core guid k so_far held made left handler root status behind held_behind made_behind left_behind → stops root status ≡ true → Managed core guid saved first before most behind held_behind made_behind left_behind
-ends core guid saved first before most k so_far held made left handler root status behind held_behind made_behind left_behind halfway call is =
-    let answer = answer_of handler.body held.message in
-    let At : ℕ → Buffered → RoomState Invocation → Type 0 = λ r h m. Managed core guid saved first before most r h m left_behind in
-    let r : ℕ = result_behind (is_root guid) so_far answer.status in
-    let h : Buffered = record held { message = answer.message } in
-    subst (λ (r' : ℕ). At r' held_behind made_behind) (sym (call_behind core guid k so_far held made left handler root status behind held_behind made_behind left_behind call))
-    (subst (λ (h' : Buffered). At r h' made_behind) (sym call.held_is)
-    (subst (At r h) (sym call.made_is)
-    (stopped core guid saved first before most k so_far held made left handler call.found call.own (call_stops core guid k so_far held made left handler root status behind held_behind made_behind left_behind call true is) left_behind call.left_is halfway)))
-
--- behind a handler that isn't called
-pub goes_past : (core : CoreState) (guid : Option Guid) (saved : Saved) (first : Buffered) (before : RoomState Invocation) (most k so_far : ℕ) (held : Buffered) (made : RoomState Invocation) (left : ℕ) (handler : Handler) (behind : ℕ) (held_behind : Buffered) (made_behind : RoomState Invocation) (left_behind : ℕ) → Halfway core guid saved first before most k so_far held made left → slice_get core.site.handlers k ≡ Some handler → option_eq same_guid handler.guid guid ≡ false → behind ≡ so_far → held_behind ≡ held → made_behind ≡ made → left_behind ≡ left → Halfway core guid saved first before most (k + 1) behind held_behind made_behind left_behind
-goes_past core guid saved first before most k so_far held made left handler behind held_behind made_behind left_behind halfway found other r h m l =
-    let At : ℕ → Buffered → RoomState Invocation → ℕ → Type 0 = λ r' h' m' l'. Halfway core guid saved first before most (k + 1) r' h' m' l' in
-    subst (λ (r' : ℕ). At r' held_behind made_behind left_behind) (sym r)
-    (subst (λ (h' : Buffered). At so_far h' made_behind left_behind) (sym h)
-    (subst (λ (m' : RoomState Invocation). At so_far held m' left_behind) (sym m)
-    (subst (At so_far held made) (sym l)
-    (passed core guid saved first before most k so_far held made left handler found other halfway))))
+  -- after a call that stops the chain
+  pub ends : (held : Held) (root : Bool) (status : ℕ) (after : Held) → Halfway start k held → Call start held handler root status after
+      → stops root status ≡ true → Managed start after
+  ends held root status after halfway call is =
+      subst (Managed start) (after_is start held handler root status after call)
+      (stopped start k handler found own held halfway after.blanks call.blanks_are
+      (stops_as start held handler root status after call true is))

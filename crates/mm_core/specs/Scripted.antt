@@ -6,7 +6,7 @@ use Rattle.mm_base.specs.declared.handler.Handler.{Handler}
 use Rattle.mm_base.specs.declared.handler.HandlerBody.{HandlerBody}
 use Rattle.mm_base.specs.declared.handler.HandlerBody.TheVariants.{Version, Stub, Code}
 use Rattle.mm_core.specs.CoreState.{CoreState}
-use Rattle.mm_core.specs.declared.version.TheConstants.{VERSION_GUID}
+use Rattle.mm_core.specs.Version.{version_guid}
 
 -- whether a body is a stub's
 abbrev pub is_stub : HandlerBody → Bool
@@ -21,12 +21,16 @@ AreStubs handlers = All (λ handler. is_stub handler.body ≡ true) handlers
 -- the handlers, numbered from this number on
 abbrev pub numbered : ℕ → List Handler → List Handler
 numbered number [] = []
-numbered number (handler ∷ handlers) = record { number = number; guid = handler.guid; body = handler.body } ∷ numbered (number + 1) handlers
+numbered number (handler ∷ handlers) =
+    record { number = number; guid = handler.guid; body = handler.body } ∷ numbered (number + 1) handlers
 
 -- the version handler
 abbrev pub version_handler : Handler
-version_handler = record { number = 0; guid = Some VERSION_GUID; body = Version }
+version_handler = record { number = 0; guid = Some version_guid; body = Version }
 
 -- the core of a script with these opening cells and stubs
-abbrev pub scripted : List CellWrite → List Handler → CoreState
-scripted cells stubs = record { site = record { handlers = version_handler ∷ numbered 1 stubs }; live = record { cells = cells } }
+abbrev pub core_of_script : List CellWrite → List Handler → CoreState
+core_of_script cells stubs = record {
+  site = record { handlers = version_handler ∷ numbered 1 stubs };
+  live = record { cells = cells };
+}

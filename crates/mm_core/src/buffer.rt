@@ -1,13 +1,13 @@
-//! The buffer of an entry: the reply so far, and behind it the message that handlers work on.
+//! The buffer of an entry: the reply so far, and after it the message that handlers work on.
 ghost use Rattle.std.specs.Prelude.{◌≡◌, ◌+◌, ◌≤◌, [], ◌++◌, min, length, take, drop};
 ghost use Rattle.mm_core.specs.Invoked.{no_message};
 
 use mm_base::{List, Room};
 use std::marker::Model;
 
-/// The reply so far, and behind it in the same room the message that handlers work on.
+/// The reply so far, and after it in the same room the message that handlers work on.
 #[derive(Debug, Drop)]
-pub struct Buffer {
+pub(crate) struct Buffer {
     bytes: Room<u8>,
     front: usize,
     size: u64,
@@ -15,9 +15,9 @@ pub struct Buffer {
 
 impl Model for Buffer {
     ghost use Rattle.std.specs.Prelude.{◌≤◌, take, drop, length};
-    ghost use Rattle.mm_core.specs.Buffered.{Buffered};
+    ghost use Rattle.mm_core.specs.BufferInside.{BufferState};
 
-    ghost Value = { Buffered };
+    ghost Value = { BufferState };
 
     ghost view = { λ b. record {
       front = take b.front b.bytes.items;
@@ -30,7 +30,7 @@ impl Model for Buffer {
 
 impl Buffer {
     /// A buffer without reply and message, in this room.
-    pub fn new(bytes: Room<u8>) -> Buffer
+    pub(crate) fn new(bytes: Room<u8>) -> Buffer
         requires { bytes.items ≡ [] }
         ensures { result ≡ record { front = []; message = no_message; room = bytes.room } }
     {
@@ -41,8 +41,8 @@ impl Buffer {
         }
     }
 
-    /// Puts this header to the reply, and copies a message behind it.
-    pub fn open(&mut self, header: &[u8], message: &[u8])
+    /// Makes this header the reply so far, and copies the message after it.
+    pub(crate) fn open(&mut self, header: &[u8], message: &[u8])
         requires front { self.old.front ≡ [] }
         requires message { self.old.message ≡ no_message }
         requires room { length header.now + length message.now ≤ self.old.room }
@@ -59,14 +59,14 @@ impl Buffer {
     }
 
     /// How many bytes there are for the message, whatever its size.
-    pub fn message_bytes(&self) -> usize
+    pub(crate) fn message_bytes(&self) -> usize
         ensures { result ≡ length self.now.message.buffer }
     {
         self.bytes.len() - self.front
     }
 
     /// Writes these bytes over the first ones of the message, and makes their number its size.
-    pub fn answer(&mut self, bytes: &[u8])
+    pub(crate) fn answer(&mut self, bytes: &[u8])
         requires { length bytes.now ≤ length self.old.message.buffer }
         ensures { self.new ≡ record self.old {
           message = record {
@@ -80,7 +80,7 @@ impl Buffer {
     }
 
     /// Adds to the reply what the message has by its size, `most` bytes at most. No message is left.
-    pub fn close(&mut self, most: usize)
+    pub(crate) fn close(&mut self, most: usize)
         ensures { self.new ≡ record {
           front = self.old.front ++ take (min self.old.message.size most) self.old.message.buffer;
           message = no_message;
@@ -95,7 +95,7 @@ impl Buffer {
     }
 
     /// The reply, where there is no message. It is moved and not copied.
-    pub fn into_reply(self) -> List<u8>
+    pub(crate) fn into_reply(self) -> List<u8>
         requires { self.message ≡ no_message }
         ensures { result ≡ self.front }
     {

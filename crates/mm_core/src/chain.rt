@@ -1,10 +1,10 @@
 //! Chains of handlers, called one after another.
 ghost use Rattle.std.specs.Prelude.{◌≡◌, ◌≤◌, ◌+◌, ◌++◌, length, vec_len};
-ghost use Rattle.mm_base.specs.declared.status.TheConstants.{NOT_FOUND};
+ghost use Rattle.mm_base.specs.Statuses.{not_found};
 ghost use Rattle.mmi_registry.specs.ChainLaws.{result_from};
 ghost use Rattle.mmi_registry.specs.Handlers.{chain_of};
-ghost use Rattle.mm_core.specs.HandlerChain.{invocations_of, statuses_of, message_behind};
-ghost use Rattle.mm_core.specs.ManagedChain.{is_root, IsGiven, managed};
+ghost use Rattle.mm_core.specs.ChainInside.{is_root, IsGiven, managed};
+ghost use Rattle.mm_core.specs.HandlerChain.{invocations_of, statuses_of, message_after};
 
 use crate::buffer::Buffer;
 use crate::invoke::invoke;
@@ -15,7 +15,7 @@ use mmi_registry::combine;
 
 /// Calls the handlers of a GUID, or the root handlers where there is none, in order of registration, and answers what
 /// the chain comes to. It costs one step for each handler of the core, and what those of the chain do.
-pub fn manage(
+pub(crate) fn manage(
     core: &Core,
     guid: Option<Guid>,
     saved: Saved,
@@ -24,14 +24,18 @@ pub fn manage(
     blanks: &mut Vec<Records>,
 ) -> u64
     requires given { IsGiven (is_root guid) buffer.old.message }
-    requires room { length invocations.old.items + length (chain_of guid core.now.site.handlers) ≤ invocations.old.room }
+    requires room { let chain = chain_of guid core.now.site.handlers in
+        length invocations.old.items + length chain ≤ invocations.old.room }
     requires blanks { length (chain_of guid core.now.site.handlers) ≤ vec_len blanks.old }
     ensures result { let runs = managed core.now guid saved buffer.old.message in
-        result ≡ result_from (is_root guid) NOT_FOUND (statuses_of runs) }
+        result ≡ result_from (is_root guid) not_found (statuses_of runs) }
     ensures message { let runs = managed core.now guid saved buffer.old.message in
-        buffer.new ≡ record buffer.old { message = message_behind buffer.old.message runs } }
+        buffer.new ≡ record buffer.old { message = message_after buffer.old.message runs } }
     ensures invocations { let runs = managed core.now guid saved buffer.old.message in
-        invocations.new ≡ record { items = invocations.old.items ++ invocations_of runs; room = invocations.old.room } }
+        invocations.new ≡ record {
+          items = invocations.old.items ++ invocations_of runs;
+          room = invocations.old.room;
+        } }
     ensures blanks { let runs = managed core.now guid saved buffer.old.message in
         vec_len blanks.new + length runs ≡ vec_len blanks.old }
 {
@@ -41,8 +45,8 @@ pub fn manage(
         let handler = core.handler(k).unwrap();
         if handler.guid == guid {
             let status = invoke(&handler, buffer, invocations, blanks);
-            let (behind, stopped) = combine(root, result, status);
-            result = behind;
+            let (after, stopped) = combine(root, result, status);
+            result = after;
             if stopped {
                 return result;
             }

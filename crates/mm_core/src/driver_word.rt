@@ -1,12 +1,13 @@
 //! The word of a driver file.
 ghost use Rattle.std.specs.Prelude.{◌≡◌, ◌+◌, ◌≤◌, List, length, IfOk, IfSome, MatchOption};
-ghost use Rattle.mm_core.specs.Catalog.{Known, data_of, image_word as image_word_told, HasBadExpression, HasExpression, HasWordByImage, HasWordByContents, HasDriverWord};
-ghost use Rattle.mm_core.specs.KnownFiles.{Keeps, LieIn};
+ghost use Rattle.mm_core.specs.Catalog.{Known, data_of, word_of_machine, HasBadExpression, HasExpression};
+ghost use Rattle.mm_core.specs.Catalog.{HasWordByImage, HasWordByContents, HasDriverWord};
+ghost use Rattle.mm_core.specs.KnownFilesInside.{Keeps, LieIn};
 
 use crate::earlier::Earlier;
 use crate::file_word::{Cause, FileWord};
-use depex::{DepexEnd, parse};
-use mm_base::{DepexFault, File, NoMemory, Section};
+use depex::parse;
+use mm_base::{DepexFault, End, File, NoMemory, Section};
 use pe_loader::inspect;
 use std::alloc::Global;
 use volume_reader::{Contents, contents};
@@ -14,7 +15,7 @@ use volume_reader::{Contents, contents};
 /// IMAGE_FILE_MACHINE_EBC: the machine of EFI Byte Code.
 const EBC: u16 = 0x0ebc;
 
-/// The data of a section, behind its header.
+/// The data of a section, which follows its header.
 fn data<'a>(bytes: &'a [u8], section: &Section) -> &'a [u8]
     requires { section.now.at + section.now.length ≤ length bytes.now }
     ensures { result.now ≡ data_of bytes.now section.now }
@@ -24,8 +25,9 @@ fn data<'a>(bytes: &'a [u8], section: &Section) -> &'a [u8]
     data
 }
 
-/// The word of a driver file behind others; linear in its bytes, in its image's fixups and in its expression's items. Where the
-/// section table of its image isn't in the order of their places, at most the square of these sections comes on top.
+/// The word of a driver file after others; linear in its bytes, in its image's fixups and in its expression's items.
+/// Where the section table of its image isn't in the order of their places, at most the square of these sections comes
+/// on top.
 pub(crate) fn driver_word(
     alloc: Global,
     bytes: &[u8],
@@ -34,13 +36,14 @@ pub(crate) fn driver_word(
 ) -> Result<FileWord, NoMemory>
     requires within { file.now.body_at + file.now.body ≤ length bytes.now }
     requires few { length bytes.now ≤ 16777216 }
-    ensures { IfOk result (λ word. (known : List Known) → Keeps earlier.now known → HasDriverWord bytes.now known file.now word) }
+    ensures { IfOk result (λ word. (known : List Known) → Keeps earlier.now known
+        → HasDriverWord bytes.now known file.now word) }
 {
     if !file.sound {
         return Ok(FileWord::Refused(Cause::BodySum));
     }
     match contents(bytes, file) {
-        Ok(told) => word_by_contents(alloc, bytes, file, &told, earlier),
+        Ok(found) => word_by_contents(alloc, bytes, file, &found, earlier),
         Err(_) => Ok(FileWord::Refused(Cause::SectionSize)),
     }
 }
@@ -50,21 +53,22 @@ fn word_by_contents(
     alloc: Global,
     bytes: &[u8],
     file: &File,
-    told: &Contents,
+    found: &Contents,
     earlier: &Earlier,
 ) -> Result<FileWord, NoMemory>
-    requires within { LieIn (length bytes.now) told.now }
+    requires within { LieIn (length bytes.now) found.now }
     requires few { length bytes.now ≤ 16777216 }
-    ensures { IfOk result (λ word. (known : List Known) → Keeps earlier.now known → HasWordByContents bytes.now known file.now told.now word) }
+    ensures { IfOk result (λ word. (known : List Known) → Keeps earlier.now known
+        → HasWordByContents bytes.now known file.now found.now word) }
 {
-    if told.compressed {
+    if found.compressed {
         return Ok(FileWord::Refused(Cause::Compressed));
     }
-    if told.guid_defined {
+    if found.guid_defined {
         return Ok(FileWord::Refused(Cause::GuidDefined));
     }
-    match told.image {
-        Some(image) => word_by_image(alloc, bytes, file, &image, told.depex, earlier),
+    match found.image {
+        Some(image) => word_by_image(alloc, bytes, file, &image, found.depex, earlier),
         None => Ok(FileWord::Refused(Cause::NoImage)),
     }
 }
@@ -81,7 +85,8 @@ fn word_by_image(
     requires image { image.now.at + image.now.length ≤ length bytes.now }
     requires depex { IfSome depex (λ section. section.at + section.length ≤ length bytes.now) }
     requires few { length bytes.now ≤ 16777216 }
-    ensures { IfOk result (λ word. (known : List Known) → Keeps earlier.now known → HasWordByImage bytes.now known file.now image.now depex word) }
+    ensures { IfOk result (λ word. (known : List Known) → Keeps earlier.now known
+        → HasWordByImage bytes.now known file.now image.now depex word) }
 {
     let found = match inspect(data(bytes, image)) {
         Ok(found) => found,
@@ -101,7 +106,8 @@ fn expression_fault(
 ) -> Result<Option<DepexFault>, NoMemory>
     requires within { IfSome depex (λ section. section.at + section.length ≤ length bytes.now) }
     requires few { length bytes.now ≤ 16777216 }
-    ensures { IfOk result (λ fault. MatchOption fault (HasExpression bytes.now depex) (HasBadExpression bytes.now depex)) }
+    ensures { IfOk result (λ fault.
+        MatchOption fault (HasExpression bytes.now depex) (HasBadExpression bytes.now depex)) }
 {
     let section = match depex {
         Some(section) => section,
@@ -109,14 +115,14 @@ fn expression_fault(
     };
     match parse(alloc, data(bytes, &section)) {
         Ok(_) => Ok(None),
-        Err(DepexEnd::Fault(fault)) => Ok(Some(fault)),
-        Err(DepexEnd::NoMemory) => Err(NoMemory),
+        Err(End::Fault(fault)) => Ok(Some(fault)),
+        Err(End::NoMemory(refused)) => Err(refused),
     }
 }
 
 /// The word of a driver file whose image is for this machine, and is as it should be.
 fn image_word(file: &File, machine: u16, earlier: &Earlier) -> FileWord
-    ensures { (known : List Known) → Keeps earlier.now known → result ≡ image_word_told known file.now machine }
+    ensures { (known : List Known) → Keeps earlier.now known → result ≡ word_of_machine known file.now machine }
 {
     if earlier.has_driver(file.name) {
         FileWord::Refused(Cause::Duplicate)

@@ -1,7 +1,7 @@
-//! What is kept of the files of a volume that stand in front of one.
+//! What is kept of the files of a volume that come before one.
 ghost use Rattle.std.specs.Prelude.{◌≡◌, [], ◌∷◌, ◌++◌, List, OnOk};
-ghost use Rattle.mm_core.specs.Catalog.{Known, has_policy as is_policy_among, has_driver as is_driver_among};
-ghost use Rattle.mm_core.specs.KnownFiles.{Keeps};
+ghost use Rattle.mm_core.specs.Catalog.{Known, is_policy_among, is_driver_among};
+ghost use Rattle.mm_core.specs.KnownFilesInside.{Keeps};
 
 use crate::file_word::FileWord;
 use crate::policy_file::is_policy;
@@ -43,7 +43,8 @@ impl Earlier {
 
     /// Keeps one file more, with its word.
     pub(crate) fn keep(&mut self, file: &File, word: FileWord) -> Result<(), NoMemory>
-        ensures { OnOk result ((earlier : List Known) → Keeps self.old earlier → Keeps self.new (earlier ++ record { file = file.now; word = word } ∷ [])) }
+        ensures { OnOk result ((earlier : List Known) → Keeps self.old earlier
+            → Keeps self.new (earlier ++ record { file = file.now; word = word } ∷ [])) }
     {
         self.has_policy = self.has_policy || is_policy(file);
         if word.is_driver() {

@@ -1,43 +1,44 @@
 //! The entry step: what a core makes of one captured request.
 ghost use Rattle.std.specs.Prelude.{◌≡◌, ◌≤◌, ◌+◌, ◌==◌, if◌then◌else◌, [], length, vec_len};
-ghost use Rattle.mm_base.specs.declared.status.TheConstants.{SUCCESS, NOT_FOUND};
+ghost use Rattle.mm_base.specs.Statuses.{success, not_found};
 ghost use Rattle.mm_base.specs.declared.entry.Shape.TheVariants.{Dispatched};
-ghost use Rattle.mm_core.specs.EntryStep.{shape_of as shape_in, entry_step};
+ghost use Rattle.mm_core.specs.EntryStep.{shape_of, entry_step};
 ghost use Rattle.mm_core.specs.HandlerChain.{invocations_of};
 ghost use Rattle.mm_core.specs.Invoked.{no_message};
 ghost use Rattle.mm_core.specs.Laws.{IsAddressed};
-ghost use Rattle.mm_core.specs.StepParts.{chain_in, status_in, reply_in};
+ghost use Rattle.mm_core.specs.StepInside.{chain_in, status_in, reply_in};
 
 use crate::buffer::Buffer;
 use crate::chain::manage;
-use crate::header::{HEADER_BYTES, guid_of, message_length, split_header};
+use crate::header::{read_header, split_request};
 use crate::machine_core::Core;
 use mm_base::status::{INVALID_PARAMETER, NOT_FOUND, SUCCESS};
-use mm_base::{Guid, Invocation, Outcome, OutcomeRooms, Records, Request, Room, Shape};
+use mm_base::{
+    Guid, HEADER_BYTES, Invocation, Outcome, OutcomeRooms, Records, Request, Room, Shape,
+};
 
 /// What a request is taken for. It costs one step a handler.
-fn shape_of(core: &Core, request: &Request) -> Shape
-    ensures { result ≡ shape_in core.now.site request.now }
+fn classify(core: &Core, request: &Request) -> Shape
+    ensures { result ≡ shape_of core.now.site request.now }
 {
     let bytes = request.bytes.as_slice();
-    let header = HEADER_BYTES as u64;
-    if request.length < header || bytes.len() as u64 != request.length {
+    if request.length < HEADER_BYTES || bytes.len() as u64 != request.length {
         return Shape::BadLength;
     }
-    if message_length(bytes) > request.length - header {
+    let header = read_header(request);
+    if !header.fits {
         return Shape::BadHeader;
     }
-    let guid = guid_of(bytes);
-    if core.has_handler(guid) {
-        Shape::Dispatched(guid)
+    if core.has_handler(header.guid) {
+        Shape::Dispatched(header.guid)
     } else {
-        Shape::NoHandler(guid)
+        Shape::NoHandler(header.guid)
     }
 }
 
 /// The outcome of a request, in these rooms. It takes no memory, and costs one step for each handler of the core and
 /// each byte of the request, and what the handlers do.
-pub fn outcome_of(core: &Core, request: &Request, rooms: OutcomeRooms) -> Outcome
+pub(crate) fn outcome_of(core: &Core, request: &Request, rooms: OutcomeRooms) -> Outcome
     requires reply { rooms.reply.items ≡ [] }
     requires chain { rooms.chain.items ≡ [] }
     requires root { rooms.root.items ≡ [] }
@@ -54,7 +55,7 @@ pub fn outcome_of(core: &Core, request: &Request, rooms: OutcomeRooms) -> Outcom
         mut blanks,
     } = rooms;
     let mut buffer = Buffer::new(reply);
-    let shape = shape_of(core, request);
+    let shape = classify(core, request);
     let status = answer(core, request, shape, &mut buffer, &mut chain, &mut blanks);
     let _ = manage(
         core,
@@ -82,7 +83,7 @@ fn answer(
     chain: &mut Room<Invocation>,
     blanks: &mut Vec<Records>,
 ) -> u64
-    requires shape { shape_in core.now.site request.now ≡ shape }
+    requires shape { shape_of core.now.site request.now ≡ shape }
     requires buffer { buffer.old ≡ record { front = []; message = no_message; room = buffer.old.room } }
     requires reply_room { length request.now.bytes ≤ buffer.old.room }
     requires chain { chain.old.items ≡ [] }
@@ -118,9 +119,10 @@ fn dispatch(
     ensures status { result ≡ status_in core.now request.now (Dispatched guid) }
     ensures reply { buffer.new ≡ record buffer.old { front = reply_in core.now request.now (Dispatched guid) } }
     ensures chain { chain.new.items ≡ invocations_of (chain_in core.now request.now (Dispatched guid)) }
-    ensures blanks { vec_len blanks.new + length (chain_in core.now request.now (Dispatched guid)) ≡ vec_len blanks.old }
+    ensures blanks { let runs = chain_in core.now request.now (Dispatched guid) in
+        vec_len blanks.new + length runs ≡ vec_len blanks.old }
 {
-    let (header, message) = split_header(request.bytes.as_slice());
+    let (header, message) = split_request(request);
     buffer.open(header, message);
     let result = manage(core, Some(guid), request.saved, buffer, chain, blanks);
     buffer.close(message.len());
@@ -129,7 +131,7 @@ fn dispatch(
 
 /// The status of an entry whose chain comes to this.
 fn entry_status(comes_to: u64) -> u64
-    ensures { result ≡ (if comes_to == SUCCESS then SUCCESS else NOT_FOUND) }
+    ensures { result ≡ (if comes_to == success then success else not_found) }
 {
     if comes_to == SUCCESS {
         SUCCESS

@@ -1,10 +1,10 @@
 //! What a boot takes a file of a volume for.
 ghost use Rattle.std.specs.Prelude.{◌≡◌};
-ghost use Rattle.mm_core.specs.Catalog.{is_driver as is_driver_word};
+ghost use Rattle.mm_core.specs.Catalog.{is_driver_word};
 
 use mm_base::{DepexFault, PeFault};
 
-/// What a file is taken for, by its type, its name, its sections and the files in front of it.
+/// What a file is taken for, by its type, its name, its sections and the files before it.
 #[derive(Clone, Copy, Debug, PartialEq, Eq)]
 pub enum FileWord {
     /// A driver in EFI Byte Code, which a boot may start.

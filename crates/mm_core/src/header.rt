@@ -1,38 +1,53 @@
-//! The header of a communicate buffer, and the message behind it.
-ghost use Rattle.std.specs.Prelude.{◌≡◌, ◌+◌, ◌-◌, ◌≤◌, length, take};
-ghost use Rattle.mm_core.specs.CommunicateHeader.{header_guid, message as message_in, message_length as length_in};
+//! The header of a communicate buffer, and the message after it.
+ghost use Rattle.std.specs.Prelude.{◌≡◌, ◌+◌, ◌≤◌, length, IsTrue};
+ghost use Rattle.mm_core.specs.CommunicateHeader.{header_length, header_of, header_bytes, message_bytes};
 
-use mm_base::{GUID_BYTES, Guid, guid_at, le_at};
+use mm_base::{GUID_BYTES, Guid, HEADER_BYTES, Request, guid_at, number_at};
 
-/// How many bytes the header has.
-pub const HEADER_BYTES: usize = mm_base::HEADER_BYTES as usize;
+/// How many bytes MessageLength has.
+const SIZE_BYTES: u8 = 8;
 
-/// The GUID whose handlers the message is for.
-pub fn guid_of(bytes: &[u8]) -> Guid
-    requires { HEADER_BYTES ≤ length bytes.now }
-    ensures { result ≡ header_guid bytes.now }
-{
-    guid_at(bytes, 0).unwrap()
+/// What the header of a request says.
+#[derive(Clone, Copy)]
+pub(crate) struct Header {
+    /// Whether the message fits the request.
+    pub fits: bool,
+    /// The GUID whose handlers the message is for.
+    pub guid: Guid,
+    /// How many bytes the message has.
+    pub size: u64,
+    /// How many bytes of the request come before the message.
+    pub front: usize,
 }
 
-/// How many bytes the message has, as the header tells.
-pub fn message_length(bytes: &[u8]) -> u64
-    requires { HEADER_BYTES ≤ length bytes.now }
-    ensures { result ≡ length_in bytes.now }
+/// The header of a request of lawful length.
+pub(crate) fn read_header(request: &Request) -> Header
+    requires header { header_length ≤ request.now.length }
+    requires whole { length request.now.bytes ≡ request.now.length }
+    ensures { result ≡ header_of request.now }
 {
-    le_at(bytes, GUID_BYTES, 8).unwrap()
+    let bytes = request.bytes.as_slice();
+    let size = number_at(bytes, GUID_BYTES, SIZE_BYTES);
+    Header {
+        fits: size <= request.length - HEADER_BYTES,
+        guid: guid_at(bytes, 0).unwrap(),
+        size,
+        front: HEADER_BYTES as usize,
+    }
 }
 
-/// The header as it was captured, and the message.
-pub fn split_header(bytes: &[u8]) -> (&[u8], &[u8])
-    requires header { HEADER_BYTES ≤ length bytes.now }
-    requires message { length_in bytes.now ≤ length bytes.now - HEADER_BYTES }
-    ensures header { result.0.now ≡ take HEADER_BYTES bytes.now }
-    ensures message { result.1.now ≡ message_in bytes.now }
-    ensures message_length { length result.1.now ≡ length_in bytes.now }
+/// The header and the message of a request, as they were captured.
+pub(crate) fn split_request(request: &Request) -> (&[u8], &[u8])
+    requires header { header_length ≤ request.now.length }
+    requires whole { length request.now.bytes ≡ request.now.length }
+    requires fits { IsTrue (header_of request.now).fits }
+    ensures header { result.0.now ≡ header_bytes request.now }
+    ensures message { result.1.now ≡ message_bytes request.now }
+    ensures size { length result.1.now ≡ (header_of request.now).size }
+    ensures within { length result.0.now + length result.1.now ≤ length request.now.bytes }
 {
-    let length = message_length(bytes) as usize;
-    let (header, rest) = bytes.split_at(HEADER_BYTES);
-    let (message, _) = rest.split_at(length);
-    (header, message)
+    let header = read_header(request);
+    let (front, rest) = request.bytes.as_slice().split_at(header.front);
+    let (message, _) = rest.split_at(header.size as usize);
+    (front, message)
 }

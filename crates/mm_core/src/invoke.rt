@@ -1,8 +1,6 @@
 //! Invoking one handler. How it runs depends on its body alone.
 ghost use Rattle.std.specs.Prelude.{◌≡◌, ◌<◌, ◌+◌, ◌++◌, ◌∷◌, [], length, vec_len};
-ghost use Rattle.mm_base.specs.declared.invocation.Ended.TheVariants.{Returned};
-ghost use Rattle.mm_base.specs.declared.invocation.Invocation.{Invocation as Invoked};
-ghost use Rattle.mm_core.specs.Invoked.{answer_of};
+ghost use Rattle.mm_core.specs.Invoked.{answer_of, returned};
 
 use crate::buffer::Buffer;
 use crate::version::answer_version;
@@ -10,7 +8,7 @@ use mm_base::status::UNSUPPORTED;
 use mm_base::{Ended, Handler, HandlerBody, Invocation, Records, Room};
 
 /// Invokes a handler with the message, records its invocation, and answers the status that it counts as.
-pub fn invoke(
+pub(crate) fn invoke(
     handler: &Handler,
     buffer: &mut Buffer,
     invocations: &mut Room<Invocation>,
@@ -19,10 +17,11 @@ pub fn invoke(
     requires room { length invocations.old.items < invocations.old.room }
     requires blanks { 0 < vec_len blanks.old }
     ensures status { result ≡ (answer_of handler.now.body buffer.old.message).status }
-    ensures message { buffer.new ≡ record buffer.old { message = (answer_of handler.now.body buffer.old.message).message } }
+    ensures message { let answer = answer_of handler.now.body buffer.old.message in
+        buffer.new ≡ record buffer.old { message = answer.message } }
     ensures invocation { let answer = answer_of handler.now.body buffer.old.message in
-        let invocation : Invoked = record { handler = handler.now.number; ended = Returned answer.status; denials = []; writes = [] } in
-        invocations.new ≡ record { items = invocations.old.items ++ invocation ∷ []; room = invocations.old.room } }
+        let items = invocations.old.items ++ returned handler.now answer.status ∷ [] in
+        invocations.new ≡ record { items = items; room = invocations.old.room } }
     ensures blanks { vec_len blanks.new + 1 ≡ vec_len blanks.old }
 {
     let mut records = blanks.pop().unwrap();

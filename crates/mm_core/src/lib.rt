@@ -1,4 +1,6 @@
-//! The core: it answers captured requests by its registered handlers, and says what a boot takes each file of a volume for.
+//! Floor: core. It promises that a captured request is answered by the entry step over the handlers that are
+//! registered, and that each file of a volume gets the one word for what a boot takes it for. It never reads a lane,
+//! starts a driver, or takes memory in a step.
 #![tactic(auto)]
 
 mod buffer;

@@ -1,16 +1,16 @@
 //! The core: the machine that answers captured requests.
-ghost use Rattle.std.specs.Prelude.{◌≡◌, ◌≤◌, [], Some, not, length, slice_get, IfOk};
+ghost use Rattle.std.specs.Prelude.{◌≡◌, ◌≤◌, [], Some, not, true, length, slice_get, IfOk};
 ghost use Rattle.mm_base.specs.Entry.{blank_entry};
 ghost use Rattle.mmi_registry.specs.Handlers.{chain_of};
 ghost use Rattle.mm_core.specs.EntryStep.{has_none};
 
 use crate::entry_step::outcome_of;
-use mm_base::{CellWrite, Guid, Handler, List, MOST_BYTES, Machine, NoMemory, Prepared};
+use mm_base::{CellWrite, Guid, Handler, List, Machine, NoMemory, Prepared};
 use mmi_registry::Registry;
 use std::alloc::Global;
 use std::marker::Model;
 
-/// A core without images: its handlers, and what its cells hold.
+/// A core without images: its handlers, which are frozen, and what its cells hold.
 #[derive(Debug, Drop)]
 pub struct Core {
     registry: Registry,
@@ -18,17 +18,27 @@ pub struct Core {
 }
 
 impl Model for Core {
+    ghost use Rattle.std.specs.Prelude.{◌≡◌, true};
     ghost use Rattle.mm_core.specs.CoreState.{CoreState};
 
     ghost Value = { CoreState };
 
-    ghost view = { λ c. record { site = record { handlers = c.registry.handlers }; live = record { cells = c.cells } } };
+    ghost view = { λ c. record {
+      site = record { handlers = c.registry.handlers };
+      live = record { cells = c.cells };
+    } };
+
+    ghost invariant = { λ c. c.registry.frozen ≡ true };
 }
 
 impl Core {
-    /// The core that has these handlers and cells.
+    /// The core that has these handlers and cells. Registration is over.
     pub(crate) fn new(registry: Registry, cells: List<CellWrite>) -> Core
-        ensures { result ≡ record { site = record { handlers = registry.handlers }; live = record { cells = cells } } }
+        requires { registry.frozen ≡ true }
+        ensures { result ≡ record {
+          site = record { handlers = registry.handlers };
+          live = record { cells = cells };
+        } }
     {
         Core { registry, cells }
     }
@@ -61,9 +71,9 @@ impl Core {
         self.registry.chain(guid, 0).is_some()
     }
 
-    /// The memory of an entry whose request has at most so many bytes. It costs one step a handler.
+    /// The memory of an entry whose request has `bytes` bytes at most. It costs one step a handler.
     pub fn prepare(&self, alloc: Global, bytes: u32) -> Result<Prepared, NoMemory>
-        requires { bytes ≤ MOST_BYTES }
+        requires { bytes ≤ 4096 }
         ensures { IfOk result (λ p. p ≡ record {
           entry = blank_entry;
           captured = record { items = []; room = bytes };
@@ -79,7 +89,7 @@ impl Core {
 impl Machine for Core {
     ghost use Rattle.std.specs.Prelude.{length};
     ghost use Rattle.mm_core.specs.EntryStep.{core_step};
-    ghost use Rattle.mm_core.specs.EntryLaws.{core_step-keeps, core_step-within};
+    ghost use Rattle.mm_core.specs.MachineLemmas.{core_step-keeps, core_step-within};
 
     ghost stepped = { core_step };
 

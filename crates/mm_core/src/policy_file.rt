@@ -1,6 +1,6 @@
 //! The file that has the policy.
 ghost use Rattle.std.specs.Prelude.{◌≡◌};
-ghost use Rattle.mm_core.specs.Catalog.{is_policy as is_policy_file};
+ghost use Rattle.mm_core.specs.Catalog.{is_policy_file};
 
 use mm_base::{File, Guid};
 

@@ -3,7 +3,7 @@ ghost use Rattle.std.specs.Prelude.{◌≡◌, ◌≤◌, ◌<◌, true, false, 
 ghost use Rattle.mm_base.specs.Cells.{IsOpening};
 ghost use Rattle.mmi_registry.specs.Handlers.{is_built_in};
 ghost use Rattle.mmi_registry.specs.Registry.{with_handler};
-ghost use Rattle.mm_core.specs.Scripted.{AreStubs, scripted as scripted_core};
+ghost use Rattle.mm_core.specs.Scripted.{AreStubs, core_of_script};
 
 use crate::machine_core::Core;
 use crate::version::VERSION_GUID;
@@ -21,7 +21,7 @@ pub fn scripted(
     requires cells { IsOpening opening.now.cells }
     requires few { length handlers.now ≤ 64 }
     requires stubs { AreStubs handlers.now }
-    ensures { IfOk result (λ core. core ≡ scripted_core opening.now.cells handlers.now) }
+    ensures { IfOk result (λ core. core ≡ core_of_script opening.now.cells handlers.now) }
 {
     let mut registry = Registry::new(alloc)?;
     add_built_in(&mut registry, Some(VERSION_GUID), HandlerBody::Version);

@@ -79,7 +79,7 @@ fn core(rt: &impl Abort, alloc: Global, listed: &[(Option<Guid>, u64)]) -> Resul
     scripted(alloc, &opening, &stubs(alloc, listed)?)
 }
 
-/// What comes of a request of so many bytes, as its length word says, when the core enters with these.
+/// What comes of a request of these bytes, of `length` bytes as its length word says, to a core with these stubs.
 fn entered(
     rt: &impl Abort,
     alloc: Global,
@@ -115,7 +115,7 @@ fn is_right(outcome: &Outcome, case: &Case) -> bool {
 
 fn version() -> Case {
     Case {
-        name: "a message of 8 bytes gets the version, and a stub behind the version handler isn't called",
+        name: "a message of 8 bytes gets the version, and a stub after the version handler isn't called",
         stubs: &[(Some(VERSION_GUID), 7)],
         length: 32,
         bytes: TO_VERSION,

@@ -12,11 +12,11 @@ pub const VERSION_GUID: Guid = Guid([
     0x31, 0x56, 0x4d, 0x4d, 0x01, 0x00, 0x00, 0x40, 0x80, 0x00, 0x00, 0x00, 0x00, 0x00, 0x00, 0x01,
 ]);
 
-/// What the version handler answers: PI 1.8, in the form of a revision word.
+/// What the version handler answers: this project's own word for PI 1.8.
 pub const VERSION_NUMBER: u64 = 0x1_0008;
 
 /// Answers the version into the message, where there is place for it, and returns the status.
-pub fn answer_version(buffer: &mut Buffer) -> u64
+pub(crate) fn answer_version(buffer: &mut Buffer) -> u64
     ensures status { result ≡ (answer_of Version buffer.old.message).status }
     ensures message { buffer.new ≡ record buffer.old { message = (answer_of Version buffer.old.message).message } }
 {

@@ -1,8 +1,8 @@
 //! What a boot takes the files of a volume for.
 ghost use Rattle.std.specs.Prelude.{◌≡◌, ◌+◌, ◌≤◌, List as Items, length, IfOk};
 ghost use Rattle.volume_reader.specs.VolumeGrammar.{IsVolume};
-ghost use Rattle.mm_core.specs.Catalog.{Known, plain_word as plain_word_told, HasWord, AreWords};
-ghost use Rattle.mm_core.specs.KnownFiles.{Keeps};
+ghost use Rattle.mm_core.specs.Catalog.{Known, word_of_other, HasWord, AreWords};
+ghost use Rattle.mm_core.specs.KnownFilesInside.{Keeps};
 
 use crate::driver_word::driver_word;
 use crate::earlier::Earlier;
@@ -17,9 +17,9 @@ const MM_STANDALONE: u8 = 0x0e;
 /// EFI_FV_FILETYPE_FFS_PAD: the type of a pad file.
 const PAD: u8 = 0xf0;
 
-/// The word of each file of a volume, in order. It costs one pass over the files, over the bytes of drivers and over the fixups
-/// of their images, at most the square of the sections of an image whose table isn't in the order of their places, and for each
-/// driver a comparison for each doubling of their number.
+/// The word of each file of a volume, in order. It costs one pass over the files, over the bytes of drivers and over
+/// the fixups of their images, at most the square of the sections of an image whose table isn't in the order of their
+/// places, and for each driver a comparison for each doubling of their number.
 pub fn catalog(alloc: Global, bytes: &[u8], volume: &Volume) -> Result<List<FileWord>, NoMemory>
     requires read { IsVolume bytes.now volume.now }
     requires few { length bytes.now ≤ 16777216 }
@@ -36,7 +36,7 @@ pub fn catalog(alloc: Global, bytes: &[u8], volume: &Volume) -> Result<List<File
     Ok(words)
 }
 
-/// The word of a file behind others; what a driver's costs, `driver_word` says.
+/// The word of a file after others; what a driver's costs, `driver_word` says.
 fn word_of(
     alloc: Global,
     bytes: &[u8],
@@ -45,7 +45,8 @@ fn word_of(
 ) -> Result<FileWord, NoMemory>
     requires within { file.now.body_at + file.now.body ≤ length bytes.now }
     requires few { length bytes.now ≤ 16777216 }
-    ensures { IfOk result (λ word. (known : Items Known) → Keeps earlier.now known → HasWord bytes.now known file.now word) }
+    ensures { IfOk result (λ word. (known : Items Known) → Keeps earlier.now known
+        → HasWord bytes.now known file.now word) }
 {
     if file.kind == MM_STANDALONE {
         driver_word(alloc, bytes, file, earlier)
@@ -54,9 +55,9 @@ fn word_of(
     }
 }
 
-/// The word of a file that is no driver, behind others.
+/// The word of a file that is no driver, after others.
 fn plain_word(file: &File, earlier: &Earlier) -> FileWord
-    ensures { (known : Items Known) → Keeps earlier.now known → result ≡ plain_word_told known file.now }
+    ensures { (known : Items Known) → Keeps earlier.now known → result ≡ word_of_other known file.now }
 {
     if file.kind == PAD {
         FileWord::Pad

@@ -5,4 +5,11 @@ use Rattle.mm_core.proofs.chain.manage.Given as goal
 -- what is done so far, and what the handlers from k on give, is the whole chain
 abbrev pub invariant-loop-k : goal.invariant-loop-k
 invariant-loop-k l =
-    Halfway l.core l.guid l.fn.saved l.fn.buffer l.fn.invocations (vec_len l.fn.blanks) l.k l.result l.buffer l.invocations (vec_len l.blanks)
+    Halfway record {
+      core = l.core;
+      guid = l.guid;
+      saved = l.fn.saved;
+      buffer = l.fn.buffer;
+      made = l.fn.invocations;
+      blanks = vec_len l.fn.blanks;
+    } l.k record { result = l.result; buffer = l.buffer; made = l.invocations; blanks = vec_len l.blanks }

@@ -1,13 +1,16 @@
-use Rattle.std.proofs.Common.{◌∙◌, refl, vec_len, inl, inr}
-use Rattle.mm_base.specs.declared.entry.Shape.TheVariants.{BadLength, BadHeader, NoHandler, Dispatched}
-use Rattle.mm_base.specs.declared.status.TheConstants.{INVALID_PARAMETER, NOT_FOUND}
-use Rattle.mm_core.specs.EntryLaws.{is_addressed}
-use Rattle.mm_core.proofs.StepLemmas.{Answered, answered_refused, answered_as, bad_length_status, bad_header_status, no_handler_status}
+use Rattle.std.proofs.Common.{◌≡◌, ◌∙◌, refl, sym, ap, length, true, inl, inr, arith}
+use Rattle.mm_base.specs.declared.entry.Shape.{Shape}
+use Rattle.mm_core.specs.HandlerChain.{invocations_of}
+use Rattle.mm_core.specs.MachineLemmas.{is_addressed}
+use Rattle.mm_core.specs.StepInside.{chain_in, status_in, reply_in}
+use Rattle.mm_core.proofs.StepLemmas.{is_refused, refused_chain, refused_buffer}
+use Rattle.mm_core.proofs.StepLemmas.{bad_length_status, bad_header_status, no_handler_status}
 use Rattle.mm_core.proofs.entry_step.answer.Goals as goal
 
 pub dispatch-requires : goal.dispatch-requires
 dispatch-requires c = record {
-  addressed = is_addressed c.args.core.now.site c.args.request.now c.in-Dispatched.guid (c.requires.shape ∙ c.in-Dispatched.is);
+  addressed =
+      is_addressed c.args.core.now.site c.args.request.now c.in-Dispatched.guid (c.requires.shape ∙ c.in-Dispatched.is);
   buffer = c.requires.buffer;
   reply_room = c.requires.reply_room;
   chain = c.requires.chain;
@@ -17,26 +20,43 @@ dispatch-requires c = record {
 
 pub returns-in-NoHandler : goal.returns-in-NoHandler
 returns-in-NoHandler c =
-    let a : Answered c.args.core.now c.args.request.now c.args.buffer.now (vec_len c.args.blanks.now) c.args.shape NOT_FOUND c.args.buffer.now c.args.chain.now.items (vec_len c.args.blanks.now) =
-    answered_refused c.args.core.now c.args.request.now c.args.buffer.now _ c.args.shape (NoHandler c.in-NoHandler.field-0) NOT_FOUND _ c.in-NoHandler.is refl (no_handler_status _ _ _) c.requires.buffer c.requires.chain in
-    record { status = a.status; reply = a.reply; chain = a.chain; blanks = a.blanks }
-
-pub returns-in-Dispatched : goal.returns-in-Dispatched
-returns-in-Dispatched c =
-    let a : Answered c.args.core.now c.args.request.now c.args.buffer.now (vec_len c.args.blanks.now) c.args.shape c.dispatch.result c.dispatch.new.buffer c.dispatch.new.chain.items (vec_len c.dispatch.new.blanks) =
-    answered_as _ _ _ _ c.args.shape (Dispatched c.in-Dispatched.guid) _ _ _ _ c.in-Dispatched.is record {
-      status = c.dispatch.ensures.status;
-      reply = c.dispatch.ensures.reply;
-      chain = c.dispatch.ensures.chain;
-      blanks = c.dispatch.ensures.blanks;
-    } in
-    record { status = a.status; reply = a.reply; chain = a.chain; blanks = a.blanks }
+    let core = c.args.core.now in
+    let request = c.args.request.now in
+    let refused : is_refused c.args.shape ≡ true = ap is_refused c.in-NoHandler.is in
+    let none = refused_chain core request c.args.shape refused in
+    record {
+      status = no_handler_status core request _ ∙ ap (status_in core request) (sym c.in-NoHandler.is);
+      reply = refused_buffer core request c.args.shape c.args.buffer.now refused c.requires.buffer;
+      chain = c.requires.chain ∙ ap invocations_of (sym none);
+      blanks = omega (arith, ap length none);
+    }
 
 pub returns-in-BadLength : goal.returns-in-BadLength
 returns-in-BadLength c =
-    let a : Answered c.args.core.now c.args.request.now c.args.buffer.now (vec_len c.args.blanks.now) c.args.shape INVALID_PARAMETER c.args.buffer.now c.args.chain.now.items (vec_len c.args.blanks.now) =
-    elim c.in-BadLength.is [
-      | inl length ↦ answered_refused c.args.core.now c.args.request.now c.args.buffer.now _ c.args.shape BadLength INVALID_PARAMETER _ length refl (bad_length_status _ _) c.requires.buffer c.requires.chain
-      | inr header ↦ answered_refused c.args.core.now c.args.request.now c.args.buffer.now _ c.args.shape BadHeader INVALID_PARAMETER _ header refl (bad_header_status _ _) c.requires.buffer c.requires.chain
-    ] in
-    record { status = a.status; reply = a.reply; chain = a.chain; blanks = a.blanks }
+    let core = c.args.core.now in
+    let request = c.args.request.now in
+    let refused : is_refused c.args.shape ≡ true =
+    elim c.in-BadLength.is [ inl is ↦ ap is_refused is | inr is ↦ ap is_refused is ] in
+    let none = refused_chain core request c.args.shape refused in
+    record {
+      status =
+          elim c.in-BadLength.is [
+            | inl is ↦ bad_length_status core request ∙ ap (status_in core request) (sym is)
+            | inr is ↦ bad_header_status core request ∙ ap (status_in core request) (sym is)
+          ];
+      reply = refused_buffer core request c.args.shape c.args.buffer.now refused c.requires.buffer;
+      chain = c.requires.chain ∙ ap invocations_of (sym none);
+      blanks = omega (arith, ap length none);
+    }
+
+pub returns-in-Dispatched : goal.returns-in-Dispatched
+returns-in-Dispatched c =
+    let core = c.args.core.now in
+    let request = c.args.request.now in
+    let is = sym c.in-Dispatched.is in
+    record {
+      status = c.dispatch.ensures.status ∙ ap (status_in core request) is;
+      reply = c.dispatch.ensures.reply ∙ ap (λ (s : Shape). record c.args.buffer.now { front = reply_in core request s }) is;
+      chain = c.dispatch.ensures.chain ∙ ap (λ (s : Shape). invocations_of (chain_in core request s)) is;
+      blanks = omega (arith, c.dispatch.ensures.blanks, ap (λ (s : Shape). length (chain_in core request s)) is);
+    }

@@ -1,8 +1,9 @@
 use Rattle.std.proofs.Common.{◌≡◌, ◌∙◌, [], ◌++◌, sym, ap, None, length, arith}
+use Rattle.mm_core.specs.ChainInside.{managed}
 use Rattle.mm_core.specs.HandlerChain.{invocations_of}
-use Rattle.mm_core.specs.ManagedChain.{managed}
 use Rattle.mm_core.specs.Invoked.{Message, no_message}
-use Rattle.mm_core.proofs.StepLemmas.{root_place, none_behind, outcome_is}
+use Rattle.mm_core.proofs.BufferLemmas.{reply_alone}
+use Rattle.mm_core.proofs.StepLemmas.{root_place, none_left, outcome_is}
 use Rattle.mm_core.proofs.entry_step.outcome_of.Goals as goal
 
 pub new-buffer-requires : goal.new-buffer-requires
@@ -10,8 +11,8 @@ new-buffer-requires c = c.requires.reply
 
 pub answer-status-requires : goal.answer-status-requires
 answer-status-requires c = record {
-  shape = sym c.shape_of-shape.ensures;
-  buffer = c.new-buffer.ensures ∙ ap (λ b. record { front = []; message = no_message; room = b.room }) (sym c.new-buffer.ensures);
+  shape = sym c.classify-shape.ensures;
+  buffer = c.new-buffer.ensures ∙ ap (λ b. reply_alone [] b.room) (sym c.new-buffer.ensures);
   reply_room = omega (arith, c.requires.reply_room, ap (λ b. b.room) c.new-buffer.ensures);
   chain = c.requires.chain;
   chain_room = c.requires.chain_room;
@@ -20,8 +21,9 @@ answer-status-requires c = record {
 
 pub manage-requires : goal.manage-requires
 manage-requires c =
-    let none : c.answer-status.new.buffer.message ≡ no_message = ap (λ b. b.message) c.answer-status.ensures.reply ∙ ap (λ b. b.message) c.new-buffer.ensures in
-    let place = root_place c.args.core.now c.args.request.now c.shape_of-shape.result in
+    let none : c.answer-status.new.buffer.message ≡ no_message =
+    ap (λ b. b.message) c.answer-status.ensures.reply ∙ ap (λ b. b.message) c.new-buffer.ensures in
+    let place = root_place c.args.core.now c.args.request.now c.classify-shape.result in
     record {
       given = sym none;
       room = omega (arith, place, c.requires.root_room, ap length c.requires.root);
@@ -30,15 +32,17 @@ manage-requires c =
 
 pub into_reply-requires : goal.into_reply-requires
 into_reply-requires c =
-    let none : c.answer-status.new.buffer.message ≡ no_message = ap (λ b. b.message) c.answer-status.ensures.reply ∙ ap (λ b. b.message) c.new-buffer.ensures in
-    none_behind c.args.core.now c.args.request.now.saved c.answer-status.new.buffer _ none c.manage.ensures.message
+    let none : c.answer-status.new.buffer.message ≡ no_message =
+    ap (λ b. b.message) c.answer-status.ensures.reply ∙ ap (λ b. b.message) c.new-buffer.ensures in
+    none_left c.args.core.now c.args.request.now.saved c.answer-status.new.buffer _ none c.manage.ensures.message
 
 pub returns : goal.returns
 returns c =
-    let none : c.answer-status.new.buffer.message ≡ no_message = ap (λ b. b.message) c.answer-status.ensures.reply ∙ ap (λ b. b.message) c.new-buffer.ensures in
+    let none : c.answer-status.new.buffer.message ≡ no_message =
+    ap (λ b. b.message) c.answer-status.ensures.reply ∙ ap (λ b. b.message) c.new-buffer.ensures in
     let core = c.args.core.now in
     let saved = c.args.request.now.saved in
-    outcome_is core c.args.request.now c.shape_of-shape.result c.answer-status.result c.into_reply.result c.into_list.result c.into_list-2.result c.shape_of-shape.ensures c.answer-status.ensures.status
+    outcome_is core c.args.request.now _ c.classify-shape.ensures c.answer-status.ensures.status
     (c.into_reply.ensures ∙ ap (λ b. b.front) c.manage.ensures.message ∙ ap (λ b. b.front) c.answer-status.ensures.reply)
     (c.into_list.ensures ∙ c.answer-status.ensures.chain)
     (c.into_list-2.ensures ∙ ap (λ r. r.items) c.manage.ensures.invocations

@@ -7,7 +7,8 @@ loop-handler-init c = at_first c.args.handlers.now _ _ c.in_ok-registry.ensures 
 
 pub loop-handler-preserved : goal.loop-handler-preserved
 loop-handler-preserved c =
-    one_more c.args.handlers.now _ _ _ _ _ c.as_slice-handler-items.ensures c.loop-handler-test.true c.loop-handler.invariant c.add_built_in-in-loop-handler.ensures
+    one_more c.args.handlers.now _ _ c.loop-handler.invariant _ _ _ c.as_slice-handler-items.ensures c.loop-handler-test.true
+    c.add_built_in-in-loop-handler.ensures
 
 pub add_built_in-requires-in-loop-handler-clause-few : goal.add_built_in-requires-in-loop-handler-clause-few
 add_built_in-requires-in-loop-handler-clause-few c =

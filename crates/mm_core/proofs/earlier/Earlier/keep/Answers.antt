@@ -5,6 +5,9 @@ use Rattle.mm_core.proofs.earlier.Earlier.keep.Goals.{then-self, else-self}
 
 pub returns-in_ok-insert : goal.returns-in_ok-insert
 returns-in_ok-insert c = λ earlier keeps.
-    keeps_driver c.args.self.now _ earlier c.args.file.now c.args.word (sym c.is_driver.ensures ∙ c.if-is_driver.true)
-    (elim c.if-self.branch [ then-self w ↦ kept_before _ _ _ w.if-self.true w.self-is | else-self w ↦ kept_now _ _ _ w.if-self.false (w.self-is ∙ w.is_policy-self.ensures) ])
-    c.in_ok-insert.ensures.updates.0 keeps
+    keeps_driver c.args.self.now _ earlier c.args.file.now c.args.word
+    (elim c.if-self.branch [
+      | then-self w ↦ kept_before _ _ _ w.if-self.true w.self-is
+      | else-self w ↦ kept_now _ _ _ w.if-self.false (w.self-is ∙ w.is_policy-self.ensures)
+    ])
+    keeps (sym c.is_driver.ensures ∙ c.if-is_driver.true) c.in_ok-insert.ensures.updates.0

@@ -7,7 +7,7 @@ use Rattle.mm_core.proofs.machine_core.CoreMachine.step.Goals as goal
 pub outcome_of-outcome-requires : goal.outcome_of-outcome-requires
 outcome_of-outcome-requires c =
     let rooms = c.rooms-rooms.ensures in
-    let entry : c.entry.result.now ≡ c.args.prepared.now.entry = c.entry.ensures ∙ ap (λ p. p.entry) rooms.left in
+    let entry : c.entry.result.now ≡ c.args.prepared.now.entry = c.entry.ensures.value ∙ ap (λ p. p.entry) rooms.left in
     record {
       reply = ap (λ r. r.items) rooms.reply;
       chain = ap (λ r. r.items) rooms.chain;
@@ -22,10 +22,13 @@ pub returns : goal.returns
 returns c =
     let left = c.rooms-rooms.ensures.left in
     let core = c.args.self.now in
-    let entry : c.entry.result.now ≡ c.args.prepared.now.entry = c.entry.ensures ∙ ap (λ p. p.entry) left in
+    let entry : c.entry.result.now ≡ c.args.prepared.now.entry = c.entry.ensures.value ∙ ap (λ p. p.entry) left in
     record {
       request = ap (λ p. p.entry.request) c.finish.ensures ∙ ap (λ p. p.entry.request) left;
-      outcome = ap (λ p. p.entry.outcome) c.finish.ensures ∙ c.outcome_of-outcome.ensures ∙ ap (λ (e : Entry). (entry_step core.site core.live e.request).0) entry ∙ core_step-outcome core c.args.prepared.now.entry.request;
+      outcome =
+          ap (λ p. p.entry.outcome) c.finish.ensures ∙ c.outcome_of-outcome.ensures
+          ∙ ap (λ (e : Entry). (entry_step core.site core.live e.request).0) entry
+          ∙ core_step-outcome core c.args.prepared.now.entry.request;
       after = core_step-stays core c.args.prepared.now.entry.request;
       second = ap (λ p. p.second) c.finish.ensures ∙ ap (λ p. p.second) left;
     }

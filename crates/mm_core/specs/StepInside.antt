@@ -1,3 +1,5 @@
+-- No public clause cites this file.
+--
 -- The parts of an entry step, for a request that is taken for a shape.
 use Rattle.std.specs.Prelude.{ℕ, List}
 use Rattle.mm_base.specs.declared.entry.Request.{Request}

@@ -1,3 +1,5 @@
+-- No public clause cites this file.
+--
 -- The chain of a GUID, or the root chain, as one call of MmiManage goes through it.
 use Rattle.std.specs.Prelude.{◌≡◌, Bool, true, false, List, Option, Some, None, if◌then◌else◌}
 use Rattle.mm_base.specs.declared.cells.Saved.{Saved}
@@ -19,4 +21,5 @@ IsGiven root message = (if root then no_message else message) ≡ message
 -- the runs of the handlers of a GUID, or of the root handlers, through the one that stops the chain
 unfoldable pub managed : CoreState → Option Guid → Saved → Message → List Invoked
 managed core guid saved message =
-    through_stop (is_root guid) (runs_of (is_root guid) core.site saved (chain_of guid core.site.handlers) message core.live)
+    let handlers = chain_of guid core.site.handlers in
+    through_stop (is_root guid) (runs_of (is_root guid) core.site saved handlers message core.live)
