@@ -1,4 +1,5 @@
-//! Sources and sinks that count their faults, in memory and over files, and what reads and writes all of one.
+//! Floor: ground. It promises that all is read of a source and all is written to a sink, in order, and that an error is answered
+//! only where a fault was counted. It never judges what the bytes say.
 #![tactic(auto)]
 
 mod failed;

@@ -1,12 +1,12 @@
 //! Reading a source to its end.
-ghost use Rattle.std.specs.Prelude.{◌≡◌, ◌≤◌, length, IfOk, OnOk, IsErrOf};
+ghost use Rattle.std.specs.Prelude.{◌≡◌, ◌≤◌, length, vec_len, IfOk, OnOk, IsErrOf};
 ghost use Rattle.mm_io.specs.declared.reading.ReadEnd.TheVariants.{Failed as ReadFailed, NoMemory as OutOfMemory};
 ghost use Rattle.mm_io.specs.Causes.{Rose};
 ghost use Rattle.mm_io.specs.Streams.{GivesAll, GivesSome, GivesAtMost, GivesMoreThan, HasMoreThan};
 
 use crate::{Failed, Source};
 use mm_base::{Bytes, List, NoMemory};
-use std::alloc::{AllocError, Global};
+use std::alloc::Global;
 
 // The most bytes that one read asks for.
 const BLOCK: usize = 4_096;
@@ -18,8 +18,8 @@ pub enum ReadEnd {
     Failed,
     /// More bytes came than the limit.
     TooLong,
-    /// Memory was refused.
-    NoMemory,
+    /// A growth was refused.
+    NoMemory(NoMemory),
 }
 
 impl From<Failed> for ReadEnd {
@@ -31,18 +31,10 @@ impl From<Failed> for ReadEnd {
 }
 
 impl From<NoMemory> for ReadEnd {
-    ghost from_gives = { λ _ e. e ≡ OutOfMemory };
+    ghost from_gives = { λ refused e. e ≡ OutOfMemory refused };
 
-    fn from(_: NoMemory) -> Self {
-        ReadEnd::NoMemory
-    }
-}
-
-impl From<AllocError> for ReadEnd {
-    ghost from_gives = { λ _ e. e ≡ OutOfMemory };
-
-    fn from(_: AllocError) -> Self {
-        ReadEnd::NoMemory
+    fn from(refused: NoMemory) -> Self {
+        ReadEnd::NoMemory(refused)
     }
 }
 
@@ -58,7 +50,7 @@ pub fn read_all<S: Source>(alloc: Global, source: &mut S, limit: u32) -> Result<
     ensures given { GivesSome (S.left source.old) (S.left source.new) }
     ensures later { S.fault_count source.old ≤ S.fault_count source.new }
 {
-    let mut memory = vec![in alloc; 0u8; BLOCK]?;
+    let mut memory = new_block(alloc)?;
     let block = memory.as_mut_slice();
     let mut bytes = List::new(alloc);
     let most = limit as usize;
@@ -73,4 +65,11 @@ pub fn read_all<S: Source>(alloc: Global, source: &mut S, limit: u32) -> Result<
         let (came, _) = block.split_at(count);
         bytes.extend(came)?;
     }
+}
+
+/// The memory that each read is given.
+fn new_block(alloc: Global) -> Result<Vec<u8>, NoMemory>
+    ensures { IfOk result (λ block. vec_len block ≡ 4096) }
+{
+    Ok(vec![in alloc; 0u8; BLOCK]?)
 }

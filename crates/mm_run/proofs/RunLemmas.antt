@@ -5,6 +5,7 @@ use Rattle.std.proofs.lemmas.Option.{none-some, same_Some}
 use Rattle.std.specs.Prelude.{String}
 use Rattle.std.specs.declared.alloc.Global.{Global}
 use Rattle.std.specs.declared.option.Option.{Option}
+use Rattle.mm_base.specs.End.{out_of_memory}
 use Rattle.mm_base.specs.declared.entry.Entry.{Entry}
 use Rattle.mm_io.specs.Streams.{Appends, AppendsFront, Gives, GivesAll, GivesMoreThan, IsUsedUp}
 use Rattle.comm_core.specs.Capture.{pieces_in}
@@ -12,10 +13,10 @@ use Rattle.comm_core.specs.World.{WorldState}
 use Rattle.comm_core.proofs.HeadlineLemmas.{pieces_told, headline_of}
 use Rattle.mm_core.specs.CoreState.{CoreState}
 use Rattle.mm_core.specs.EntryStep.{core_step}
-use Rattle.mm_core.specs.EntryLaws.{core_step-within}
+use Rattle.mm_core.specs.MachineLemmas.{core_step-within}
 use Rattle.mm_text.specs.declared.text_end.TextFault.{TextFault}
 use Rattle.mm_text.proofs.TextLemmas.{never-both, fault-unique}
-use Rattle.volume_reader.specs.declared.reading.VolumeFault.{VolumeFault}
+use Rattle.volume_reader.specs.declared.volume_fault.VolumeFault.{VolumeFault}
 use Rattle.volume_reader.proofs.LawLemmas as volume_laws
 use Rattle.mm_run.specs.Command.{command_of, most_bytes}
 use Rattle.mm_run.specs.ScriptRun.{WasDriven, Shows, Whole, Front, RunHeadline, HasHeadline, core_of, past_of, lanes_of, lane_words, run_report, report_for}
@@ -27,7 +28,7 @@ use Rattle.mm_run.specs.declared.status.BadKind.TheVariants.{Volume as VolumeIsB
 use Rattle.mm_run.specs.declared.status.Status.{Status}
 use Rattle.mm_run.specs.declared.status.Status.TheVariants.{Done, Usage, BadVolume, BadText, ReadFault, WriteFault, TooLong, NoMemory}
 use Rattle.mm_run.specs.declared.status.Which.TheVariants.{First}
-use Rattle.mm_run.specs.declared.top_call.Made.{Made}
+use Rattle.mm_run.specs.declared.made.Made.{Made}
 
 -- ---- what bytes tell
 
@@ -99,7 +100,7 @@ pub refusal_not_usage : (command : Command) (before now : Option (List ℕ)) (ro
 refusal_not_usage command before now rose status (Faulty bytes all faulty) e = fault_not_usage command bytes status faulty e
 refusal_not_usage command before now rose status (Unreadable risen most is) e = let u : ReadFault First ≡ Usage = sym is ∙ e in cc
 refusal_not_usage command before now rose status (Long more is) e = let u : TooLong First ≡ Usage = sym is ∙ e in cc
-refusal_not_usage command before now rose status (Wanting most is) e = let u : NoMemory ≡ Usage = sym is ∙ e in cc
+refusal_not_usage command before now rose status (Wanting most is) e = let u : NoMemory out_of_memory ≡ Usage = sym is ∙ e in cc
 
 -- what a source holds that may be read isn't too long
 not_long : (most : ℕ) (before now : Option (List ℕ)) (bytes : List ℕ) → before ≡ Some bytes → length bytes ≤ most → GivesMoreThan most before now → ⊥
@@ -107,8 +108,9 @@ not_long most before now bytes told within more =
     let front = given_front before now bytes more.0 told more.2 in
     omega (arith, more.1, within, ap length front.1.1, length-append more.0 front.0)
 
--- good bytes that can be read are refused for want of memory alone
-pub refused_good : (command : Command) (before now : Option (List ℕ)) (rose : Type 0) (status : Status) → Refusal command before now rose status → Holds command before → (rose → ⊥) → status ≡ NoMemory
+-- good bytes that can be read are refused out of memory alone
+pub refused_good : (command : Command) (before now : Option (List ℕ)) (rose : Type 0) (status : Status)
+    → Refusal command before now rose status → Holds command before → (rose → ⊥) → status ≡ NoMemory out_of_memory
 refused_good command before now rose status (Faulty bytes all faulty) h calm =
     let P : List ℕ → Type 0 = λ bytes. IsGood command bytes in
     absurd (never_faulty command bytes status (subst P (given_all (most_bytes command) before now h.bytes bytes h.told all) h.good) faulty)
@@ -116,8 +118,10 @@ refused_good command before now rose status (Unreadable risen most is) h calm = 
 refused_good command before now rose status (Long more is) h calm = absurd (not_long (most_bytes command) before now h.bytes h.told h.within more)
 refused_good command before now rose status (Wanting most is) h calm = is
 
--- bytes with a fault are refused at it, or for want of memory
-pub refused_fault : (command : Command) (before now : Option (List ℕ)) (rose : Type 0) (status fault : Status) → Refusal command before now rose status → HoldsFault command before fault → (rose → ⊥) → (status ≡ fault) ⊎ (status ≡ NoMemory)
+-- bytes with a fault are refused at it, or out of memory
+pub refused_fault : (command : Command) (before now : Option (List ℕ)) (rose : Type 0) (status fault : Status)
+    → Refusal command before now rose status → HoldsFault command before fault → (rose → ⊥)
+    → (status ≡ fault) ⊎ (status ≡ NoMemory out_of_memory)
 refused_fault command before now rose status fault (Faulty bytes all faulty) h calm =
     let P : List ℕ → Type 0 = λ bytes. IsFaulty command bytes fault in
     inl (one_fault command bytes status fault faulty (subst P (given_all (most_bytes command) before now h.bytes bytes h.told all) h.first))

@@ -1,6 +1,7 @@
 -- What a run of the program comes to, for each of its commands.
 use Rattle.std.specs.Prelude.{◌≡◌, ◌≤◌, ◌⊎◌, ℕ, true, List, length, Some, None}
 use Rattle.std.specs.declared.option.Option.{Option}
+use Rattle.mm_base.specs.End.{out_of_memory}
 use Rattle.mm_base.specs.declared.volume.Volume.{Volume}
 use Rattle.mm_io.specs.Streams.{GivesAll, GivesAtMost, GivesMoreThan}
 use Rattle.comm_core.specs.World.{WorldState}
@@ -10,7 +11,7 @@ use Rattle.mm_text.specs.Refusal.{IsFault}
 use Rattle.mm_text.specs.ScriptText.{IsScript}
 use Rattle.mm_text.specs.declared.text_end.TextFault.{TextFault}
 use Rattle.volume_reader.specs.VolumeGrammar.{IsVolume, HasFault}
-use Rattle.volume_reader.specs.declared.reading.VolumeFault.{VolumeFault}
+use Rattle.volume_reader.specs.declared.volume_fault.VolumeFault.{VolumeFault}
 use Rattle.mm_run.specs.Command.{most_bytes}
 use Rattle.mm_run.specs.ScriptRun.{report_for, IsDriven}
 use Rattle.mm_run.specs.CheckRun.{IsVolumeReport}
@@ -20,7 +21,7 @@ use Rattle.mm_run.specs.declared.status.BadKind.TheVariants.{Volume as VolumeIsB
 use Rattle.mm_run.specs.declared.status.Status.{Status}
 use Rattle.mm_run.specs.declared.status.Status.TheVariants.{BadVolume, BadText, ReadFault, TooLong, NoMemory}
 use Rattle.mm_run.specs.declared.status.Which.TheVariants.{First}
-use Rattle.mm_run.specs.declared.top_call.Made.{Made}
+use Rattle.mm_run.specs.declared.made.Made.{Made}
 
 -- The bytes of a command's source are as it wants them: they spell a script, or are a volume.
 abbrev pub IsGood : Command → List ℕ → Type 0
@@ -38,12 +39,13 @@ IsReport ScriptCommand bytes text = (script : Script) × (IsScript true bytes sc
 IsReport Check bytes text = IsVolumeReport bytes text
 
 -- The cause of a refusal: what a source gave, and whether its count of faults rose. Its bytes have a fault; or it could not be
--- read; or it has more than it may; or memory was refused.
+-- read; or it has more than it may; or a growth was refused.
 pub data Refusal (command : Command) (before now : Option (List ℕ)) (rose : Type 0) (status : Status) : Type 0 where
   Faulty : (bytes : List ℕ) → GivesAll before now (most_bytes command) bytes → IsFaulty command bytes status → Refusal command before now rose status
   Unreadable : rose → GivesAtMost (most_bytes command) before now → status ≡ ReadFault First → Refusal command before now rose status
   Long : GivesMoreThan (most_bytes command) before now → status ≡ TooLong First → Refusal command before now rose status
-  Wanting : GivesAtMost (most_bytes command) before now → status ≡ NoMemory → Refusal command before now rose status
+  Wanting : GivesAtMost (most_bytes command) before now → status ≡ NoMemory out_of_memory
+      → Refusal command before now rose status
 
 -- A source was read to its end, and this was done with the report of the command for its bytes.
 pub record Reports (command : Command) (before now : Option (List ℕ)) (IsDoneWith : List ℕ → Type 0) : Type 0 where
@@ -67,9 +69,9 @@ pub record HoldsFault (command : Command) (left : Option (List ℕ)) (status : S
   pub within : length bytes ≤ most_bytes command
   pub first : IsFaulty command bytes status
 
--- The cause of a refusal that bytes tell, or want of memory.
+-- The cause of a refusal that bytes tell, or out of memory.
 abbrev pub RefusesBytes : Command → List ℕ → Status → Type 0
-RefusesBytes command bytes status = IsFaulty command bytes status ⊎ (status ≡ NoMemory)
+RefusesBytes command bytes status = IsFaulty command bytes status ⊎ (status ≡ NoMemory out_of_memory)
 
 -- What was made of a script: a world that was driven through it, and its report.
 pub record IsDrivenBy (script : Script) (made : Made) : Type 0 where

@@ -11,7 +11,7 @@ use Rattle.comm_core.specs.World.{WorldState, StandsFor}
 use Rattle.comm_core.specs.declared.script.Script.{Script}
 use Rattle.mm_core.specs.CoreState.{CoreState}
 use Rattle.mm_core.specs.EntryStep.{core_step}
-use Rattle.mm_core.specs.Scripted.{scripted}
+use Rattle.mm_core.specs.Scripted.{core_of_script}
 use Rattle.mm_text.specs.Report.{report_of}
 use Rattle.mm_text.specs.ScriptText.{IsScript}
 use Rattle.mm_run.specs.Command.{most_bytes}
@@ -21,7 +21,7 @@ use Rattle.mm_run.specs.declared.status.Status.TheVariants.{Done, WriteFault}
 
 -- the core of a script: the version handler, the script's stubs, and its opening cells
 abbrev pub core_of : Script → CoreState
-core_of script = scripted script.opening.cells script.handlers
+core_of script = core_of_script script.opening.cells script.handlers
 
 -- all that a script makes happen, from its core
 unfoldable pub past_of : Script → List Mark

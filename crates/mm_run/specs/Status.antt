@@ -1,11 +1,11 @@
 -- Numbers and causes of statuses.
 use Rattle.std.specs.Prelude.{ℕ, Bool, true, false}
+use Rattle.mm_base.specs.declared.end.End.{End}
+use Rattle.mm_base.specs.declared.end.End.TheVariants as end
 use Rattle.mm_io.specs.declared.reading.ReadEnd.{ReadEnd}
 use Rattle.mm_io.specs.declared.reading.ReadEnd.TheVariants as read_end
-use Rattle.mm_text.specs.declared.text_end.TextEnd.{TextEnd}
-use Rattle.mm_text.specs.declared.text_end.TextEnd.TheVariants as text_end
-use Rattle.volume_reader.specs.declared.reading.VolumeEnd.{VolumeEnd}
-use Rattle.volume_reader.specs.declared.reading.VolumeEnd.TheVariants as volume_end
+use Rattle.mm_text.specs.declared.text_end.TextFault.{TextFault}
+use Rattle.volume_reader.specs.declared.volume_fault.VolumeFault.{VolumeFault}
 use Rattle.mm_run.specs.declared.status.BadKind.TheVariants.{Volume}
 use Rattle.mm_run.specs.declared.status.Status.{Status}
 use Rattle.mm_run.specs.declared.status.Status.TheVariants.{Done, Usage, BadVolume, BadText, ReadFault, WriteFault, TooLong, NoMemory}
@@ -20,23 +20,23 @@ number_of_status (BadText line kind) = 3
 number_of_status (ReadFault which) = 4
 number_of_status WriteFault = 5
 number_of_status (TooLong which) = 6
-number_of_status NoMemory = 7
+number_of_status (NoMemory refused) = 7
 
 -- the status of a source that was not read whole
 abbrev pub status_of_read : ReadEnd → Which → Status
 status_of_read read_end.Failed which = ReadFault which
 status_of_read read_end.TooLong which = TooLong which
-status_of_read read_end.NoMemory which = NoMemory
+status_of_read (read_end.NoMemory refused) which = NoMemory refused
 
 -- the status of a text that was not read
-abbrev pub status_of_text : TextEnd → Status
-status_of_text (text_end.Fault fault) = BadText fault.line fault.kind
-status_of_text text_end.NoMemory = NoMemory
+abbrev pub status_of_text : End TextFault → Status
+status_of_text (end.Fault fault) = BadText fault.line fault.kind
+status_of_text (end.NoMemory refused) = NoMemory refused
 
 -- the status of a volume that was not read
-abbrev pub status_of_volume : VolumeEnd → Status
-status_of_volume (volume_end.Fault fault) = BadVolume fault.at (Volume fault.kind)
-status_of_volume volume_end.NoMemory = NoMemory
+abbrev pub status_of_volume : End VolumeFault → Status
+status_of_volume (end.Fault fault) = BadVolume fault.at (Volume fault.kind)
+status_of_volume (end.NoMemory refused) = NoMemory refused
 
 -- whether the report was written, or a front of it
 abbrev pub writes : Status → Bool
@@ -47,9 +47,9 @@ writes (BadText line kind) = false
 writes (ReadFault which) = false
 writes WriteFault = true
 writes (TooLong which) = false
-writes NoMemory = false
+writes (NoMemory refused) = false
 
--- whether a status says that no world was driven: each but the two that write, and want of memory
+-- whether a status says that no world was driven: each but the two that write, and out of memory
 abbrev pub has_no_world : Status → Bool
 has_no_world Done = false
 has_no_world Usage = true
@@ -58,4 +58,4 @@ has_no_world (BadText line kind) = true
 has_no_world (ReadFault which) = true
 has_no_world WriteFault = false
 has_no_world (TooLong which) = true
-has_no_world NoMemory = false
+has_no_world (NoMemory refused) = false

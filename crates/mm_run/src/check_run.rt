@@ -4,8 +4,8 @@ ghost use Rattle.mm_run.specs.CheckRun.{volume_report};
 ghost use Rattle.mm_run.specs.Run.{IsMadeOfVolume, RefusesBytes};
 ghost use Rattle.mm_run.specs.declared.command.Command.TheVariants.{Check};
 
+use crate::made::Made;
 use crate::status::Status;
-use crate::top_call::Made;
 use mm_base::{Bytes, List, NoMemory, Volume};
 use mm_core::{FileWord, catalog};
 use mm_text::{Parts, report};

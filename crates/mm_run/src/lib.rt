@@ -1,11 +1,12 @@
-//! The program's top call: a script is read, a world is driven and its report is written; or a volume is read, and its files
-//! are listed.
+//! Floor: program. It promises that a command ends with the status that its source's bytes and faults give, and that what is
+//! written is the report of the world that a script drives or of the volume that bytes are. It never opens a file or prints.
 #![tactic(auto)]
 
 mod check_run;
 mod command;
 mod drive;
 mod lanes;
+mod made;
 mod script_run;
 mod status;
 mod top_call;

@@ -10,8 +10,8 @@ ghost use Rattle.mm_run.specs.declared.command.Command.TheVariants.{Script as Sc
 
 use crate::drive::drive;
 use crate::lanes::words_of_lanes;
+use crate::made::Made;
 use crate::status::Status;
-use crate::top_call::Made;
 use comm_core::{Script, World};
 use mm_base::NoMemory;
 use mm_core::{Core, scripted};

@@ -2,7 +2,7 @@
 ghost use Rattle.std.specs.Prelude.{◌≡◌};
 ghost use Rattle.mm_run.specs.Status.{number_of_status, status_of_read};
 
-use mm_base::{NoMemory, TextKind, VolumeKind};
+use mm_base::{End, NoMemory, TextKind, VolumeKind};
 use mm_io::ReadEnd;
 use mm_text::TextEnd;
 use volume_reader::VolumeEnd;
@@ -40,8 +40,8 @@ pub enum Status {
     WriteFault,
     /// A source has more bytes than it may.
     TooLong(Which),
-    /// Memory was refused.
-    NoMemory,
+    /// A growth was refused.
+    NoMemory(NoMemory),
 }
 
 impl Status {
@@ -57,7 +57,7 @@ impl Status {
             Status::ReadFault(_) => 4,
             Status::WriteFault => 5,
             Status::TooLong(_) => 6,
-            Status::NoMemory => 7,
+            Status::NoMemory(_) => 7,
         }
     }
 
@@ -68,18 +68,18 @@ impl Status {
         match end {
             ReadEnd::Failed => Status::ReadFault(which),
             ReadEnd::TooLong => Status::TooLong(which),
-            ReadEnd::NoMemory => Status::NoMemory,
+            ReadEnd::NoMemory(refused) => Status::NoMemory(refused),
         }
     }
 }
 
 impl From<NoMemory> for Status {
-    ghost use Rattle.mm_run.specs.declared.status.Status.TheVariants.{NoMemory as WantsMemory};
+    ghost use Rattle.mm_run.specs.declared.status.Status.TheVariants.{NoMemory as OutOfMemory};
 
-    ghost from_gives = { λ _ status. status ≡ WantsMemory };
+    ghost from_gives = { λ refused status. status ≡ OutOfMemory refused };
 
-    fn from(_: NoMemory) -> Self {
-        Status::NoMemory
+    fn from(refused: NoMemory) -> Self {
+        Status::NoMemory(refused)
     }
 }
 
@@ -90,11 +90,11 @@ impl From<TextEnd> for Status {
 
     fn from(end: TextEnd) -> Self {
         match end {
-            TextEnd::Fault(fault) => Status::BadText {
+            End::Fault(fault) => Status::BadText {
                 line: fault.line,
                 kind: fault.kind,
             },
-            TextEnd::NoMemory => Status::NoMemory,
+            End::NoMemory(refused) => Status::NoMemory(refused),
         }
     }
 }
@@ -106,11 +106,11 @@ impl From<VolumeEnd> for Status {
 
     fn from(end: VolumeEnd) -> Self {
         match end {
-            VolumeEnd::Fault(fault) => Status::BadVolume {
+            End::Fault(fault) => Status::BadVolume {
                 at: fault.at,
                 kind: BadKind::Volume(fault.kind),
             },
-            VolumeEnd::NoMemory => Status::NoMemory,
+            End::NoMemory(refused) => Status::NoMemory(refused),
         }
     }
 }

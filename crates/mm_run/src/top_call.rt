@@ -1,5 +1,6 @@
 //! The program's top call.
 ghost use Rattle.std.specs.Prelude.{◌≡◌, ◌≤◌, ◌↔◌, ◌⊎◌, Some, None, true, false, IfOk, IfErr, length};
+ghost use Rattle.mm_base.specs.End.{out_of_memory};
 ghost use Rattle.mm_io.specs.Causes.{Rose};
 ghost use Rattle.mm_io.specs.Streams.{Appends, AppendsFront, GivesAll};
 ghost use Rattle.mm_run.specs.Command.{command_of as command_of_words, most_bytes};
@@ -12,6 +13,7 @@ ghost use Rattle.mm_run.specs.declared.status.Status.{Status as StatusValue};
 
 use crate::check_run::check_volume;
 use crate::command::{Command, command_of};
+use crate::made::Made;
 use crate::script_run::run_script;
 use crate::status::{Status, Which};
 use comm_core::World;
@@ -27,13 +29,6 @@ pub struct RunEnd {
     pub status: Status,
     /// The world, where a script was driven.
     pub world: Option<World<Core>>,
-}
-
-/// The report that was made, and the world that was driven for it, where the command drives one.
-#[derive(Drop)]
-pub(crate) struct Made {
-    pub(crate) world: Option<World<Core>>,
-    pub(crate) text: Bytes,
 }
 
 /// Does all that the program does. The words are `script` or `check` and one word more: the script or the volume is the first
@@ -56,11 +51,16 @@ pub fn run<V: Source, S: Source, K: Sink>(
     ensures front { (command : CommandValue) → command_of_words words.now.items ≡ Some command → result.status ≡ Status.WriteFault → Reports command (V.left first.old) (V.left first.new) (AppendsFront (K.written out.old) (K.written out.new)) }
     ensures nothing { writes result.status ≡ false → out.new ≡ out.old }
 
-    // A source that can be read, and whose bytes are as the command wants them, is served, want of memory aside.
-    ensures complete { (command : CommandValue) → command_of_words words.now.items ≡ Some command → Holds command (V.left first.old) → (Rose (V.fault_count first.old) (V.fault_count first.new) → ⊥) → (Rose (K.fault_count out.old) (K.fault_count out.new) → ⊥) → (result.status ≡ Status.Done) ⊎ (result.status ≡ Status.NoMemory) }
+    // A source that can be read, and whose bytes are as the command wants them, is served, out of memory aside.
+    ensures complete { (command : CommandValue) → command_of_words words.now.items ≡ Some command →
+        Holds command (V.left first.old) → (Rose (V.fault_count first.old) (V.fault_count first.new) → ⊥) →
+        (Rose (K.fault_count out.old) (K.fault_count out.new) → ⊥) →
+        (result.status ≡ Status.Done) ⊎ (result.status ≡ Status.NoMemory out_of_memory) }
 
-    // Bytes with a fault are refused at their first fault, want of memory aside.
-    ensures faulty { (command : CommandValue) (status : StatusValue) → command_of_words words.now.items ≡ Some command → HoldsFault command (V.left first.old) status → (Rose (V.fault_count first.old) (V.fault_count first.new) → ⊥) → (result.status ≡ status) ⊎ (result.status ≡ Status.NoMemory) }
+    // Bytes with a fault are refused at their first fault, out of memory aside.
+    ensures faulty { (command : CommandValue) (status : StatusValue) → command_of_words words.now.items ≡ Some command →
+        HoldsFault command (V.left first.old) status → (Rose (V.fault_count first.old) (V.fault_count first.new) → ⊥) →
+        (result.status ≡ status) ⊎ (result.status ≡ Status.NoMemory out_of_memory) }
 
     // The headline, and with it the world that was driven. Whatever the script stores between any two steps, each entry
     // loads each word of its request exactly once, and the replies, statuses and records are the one-thread core's on the
@@ -98,8 +98,13 @@ fn serve<V: Source, K: Sink>(alloc: Global, command: Command, first: &mut V, out
     ensures done { result.status ≡ Status.Done → Reports command (V.left first.old) (V.left first.new) (Appends (K.written out.old) (K.written out.new)) }
     ensures front { result.status ≡ Status.WriteFault → Reports command (V.left first.old) (V.left first.new) (AppendsFront (K.written out.old) (K.written out.new)) }
     ensures nothing { writes result.status ≡ false → out.new ≡ out.old }
-    ensures complete { Holds command (V.left first.old) → (Rose (V.fault_count first.old) (V.fault_count first.new) → ⊥) → (Rose (K.fault_count out.old) (K.fault_count out.new) → ⊥) → (result.status ≡ Status.Done) ⊎ (result.status ≡ Status.NoMemory) }
-    ensures faulty { (status : StatusValue) → HoldsFault command (V.left first.old) status → (Rose (V.fault_count first.old) (V.fault_count first.new) → ⊥) → (result.status ≡ status) ⊎ (result.status ≡ Status.NoMemory) }
+    ensures complete { Holds command (V.left first.old) →
+        (Rose (V.fault_count first.old) (V.fault_count first.new) → ⊥) →
+        (Rose (K.fault_count out.old) (K.fault_count out.new) → ⊥) →
+        (result.status ≡ Status.Done) ⊎ (result.status ≡ Status.NoMemory out_of_memory) }
+    ensures faulty { (status : StatusValue) → HoldsFault command (V.left first.old) status →
+        (Rose (V.fault_count first.old) (V.fault_count first.new) → ⊥) →
+        (result.status ≡ status) ⊎ (result.status ≡ Status.NoMemory out_of_memory) }
     ensures headline { command ≡ ScriptCommand → writes result.status ≡ true → HasHeadline (V.left first.old) (V.left first.new) (K.written out.old) (K.written out.new) result.status result.world }
     ensures no_world { has_no_world result.status ≡ true → result.world ≡ None }
     ensures worldless { command ≡ CheckCommand → result.world ≡ None }

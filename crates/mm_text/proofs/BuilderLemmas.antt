@@ -11,7 +11,7 @@ use Rattle.mm_base.specs.declared.handler.HandlerBody.TheVariants.{Stub}
 use Rattle.mm_core.specs.Scripted.{numbered}
 use Rattle.mm_text.specs.Fields.{keyword_of}
 use Rattle.mm_text.specs.ScriptText.{is_event, has_none, may_stand, lanes_in, words_in, is_handler, is_ring, are_distinct, is_in_range, events_of, cells_of, stubs_of, script_of}
-use Rattle.mm_text.specs.ScriptReader.{phase_of, is_empty, is_opening, stands_in, are_registers, accepts, happened, behind, built, IsSmall, StandsFor}
+use Rattle.mm_text.specs.ScriptReaderInside.{phase_of, is_empty, is_opening, stands_in, are_registers, accepts, happened, behind, built, IsSmall, StandsFor}
 use Rattle.mm_text.specs.declared.line.CellKind.{CellKind}
 use Rattle.mm_text.specs.declared.line.Keyword.{Keyword}
 use Rattle.mm_text.specs.declared.line.Keyword.TheVariants as keyword

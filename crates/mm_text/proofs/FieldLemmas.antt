@@ -12,7 +12,7 @@ use Rattle.hex.specs.Hex.{decode_of}
 use Rattle.mm_base.specs.Guid.{guid_from_text}
 use Rattle.mm_base.specs.declared.guid.Guid.{Guid}
 use Rattle.mm_text.specs.Fields.{Field, Letters, Decimal, Hexadecimal, Bytes, Name, Pair, SpellsField, HasFieldForm, letters_of_cells, owner_field}
-use Rattle.mm_text.specs.LineReader.{split_at, decimal_in, hexadecimal_in, bytes_in, owner_in, cells_in, pair_by, pair_in, has_equals}
+use Rattle.mm_text.specs.LineReaderInside.{split_at, decimal_in, hexadecimal_in, bytes_in, owner_in, cells_in, pair_by, pair_in, has_equals}
 use Rattle.mm_text.specs.declared.line.CellKind.{CellKind}
 use Rattle.mm_text.specs.declared.line.CellKind.TheVariants as cells
 use Rattle.mm_text.specs.declared.line.Named.{Named}

@@ -14,7 +14,7 @@ use Rattle.uuid.specs.Text.{is_hex_digit, hyphen_place, digits_of, has_hyphens, 
 use Rattle.uuid.proofs.TextLemmas.{by_index_at}
 use Rattle.mm_base.specs.Guid.{guid_from_text}
 use Rattle.mm_base.specs.declared.guid.Guid.{Guid}
-use Rattle.mm_text.specs.LineReader.{owner_in}
+use Rattle.mm_text.specs.LineReaderInside.{owner_in}
 use Rattle.mm_text.proofs.NumberLemmas.{and_true}
 use Rattle.uuid.specs.Parts.{swap_fields}
 use borrow.Author.Tests.{ltb-true}

@@ -7,7 +7,7 @@ use Rattle.mm_base.specs.declared.text.TextKind.TheVariants.{Unknown, Order, Wor
 use Rattle.mm_text.specs.Fields.{Spells, HasForm, letters_of, keyword_of}
 use Rattle.mm_text.specs.ScriptText.{is_of_text, may_stand, is_in_range, IsAccepted}
 use Rattle.mm_text.specs.Refusal.{first_of, IsKeyword, Fits, rank, IsRefused}
-use Rattle.mm_text.specs.LineReader.{line_in, has_form, keyword_of_word}
+use Rattle.mm_text.specs.LineReaderInside.{line_in, has_form, keyword_of_word}
 use Rattle.mm_text.proofs.LineLemmas.{spells_unique, spells_form, keyword_unique, spells_keyword, form_keyword, line_in-spells, spells-line_in, has_form-true, form-has_form, keyword_of_word-is, keyword_of_word-spelled}
 use Rattle.mm_text.specs.declared.line.Keyword.{Keyword}
 use Rattle.mm_text.specs.declared.line.Line.{Line}

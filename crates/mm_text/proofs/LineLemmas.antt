@@ -7,7 +7,7 @@ use Rattle.std.specs.Str.{bytes_eq}
 use Rattle.mm_base.specs.declared.guid.Guid.{Guid}
 use Rattle.mm_text.specs.Fields.{Field, Letters, Decimal, Hexadecimal, Bytes, Name, Pair, SpellsField, HasFieldForm, Each, letters_of, letters_of_cells, keyword_of, owner_field, fields_behind, fields_of, Spells, HasForm}
 use Rattle.mm_text.specs.Refusal.{first_of}
-use Rattle.mm_text.specs.LineReader.{decimal_in, hexadecimal_in, bytes_in, owner_in, cells_in, pair_in, pairs_in, has_equals, keyword_of_word, lanes_in, cell_in, handler_in, poke_in, fill_in, ring_in, step_in, run_in, line_behind, line_in, is_cell_form, is_ring_form, is_step_form, form_behind, form_from, has_form}
+use Rattle.mm_text.specs.LineReaderInside.{decimal_in, hexadecimal_in, bytes_in, owner_in, cells_in, pair_in, pairs_in, has_equals, keyword_of_word, lanes_in, cell_in, handler_in, poke_in, fill_in, ring_in, step_in, run_in, line_behind, line_in, is_cell_form, is_ring_form, is_step_form, form_behind, form_from, has_form}
 use Rattle.mm_text.specs.declared.line.CellKind.{CellKind}
 use Rattle.mm_text.specs.declared.line.Keyword.{Keyword}
 use Rattle.mm_text.specs.declared.line.Keyword.TheVariants as keyword

@@ -14,7 +14,7 @@ use Rattle.std.specs.Result.{OkIff, result_ok}
 use Rattle.std.specs.Str.{IsAscii, IsUtf8}
 use Rattle.std.specs.Str.Parse.{AllDigits, IsNumeral, ParsesUnsigned, digits_value}
 use Rattle.mm_text.specs.Fields.{SpellsNumber}
-use Rattle.mm_text.specs.LineReader.{split_at, is_number, number_in}
+use Rattle.mm_text.specs.LineReaderInside.{split_at, is_number, number_in}
 
 -- whether a text has this byte
 abbrev pub has : ℕ → List ℕ → Bool

@@ -7,12 +7,12 @@ use Rattle.std.specs.List.{list_all}
 use Rattle.mm_text.specs.Fields.{letters_of, keyword_of, Spells, HasForm}
 use Rattle.mm_text.specs.ScriptText.{is_of_text}
 use Rattle.mm_text.specs.Refusal.{first_of, IsKeyword}
-use Rattle.mm_text.specs.LineReader.{cells_in, has_equals, keyword_of_word, lanes_in, cell_in, handler_in, poke_in, fill_in, ring_in, step_in, run_in, line_behind, line_in, is_cell_form, is_ring_form, is_step_form, form_behind, form_from, has_form, numbered, judged, Gives}
+use Rattle.mm_text.specs.LineReaderInside.{cells_in, has_equals, keyword_of_word, lanes_in, cell_in, handler_in, poke_in, fill_in, ring_in, step_in, run_in, line_behind, line_in, is_cell_form, is_ring_form, is_step_form, form_behind, form_from, has_form, numbered, judged, Gives}
 use Rattle.mm_text.specs.declared.line.Keyword.{Keyword}
 use Rattle.mm_text.specs.declared.line.Keyword.TheVariants as keyword
 use Rattle.mm_text.specs.declared.line.Line.{Line}
-use Rattle.mm_text.specs.declared.line_reader.LineEnd.{LineEnd}
-use Rattle.mm_text.specs.declared.line_reader.LineEnd.TheVariants.{Words, Number}
+use Rattle.mm_text.specs.declared.line_end.LineEnd.{LineEnd}
+use Rattle.mm_text.specs.declared.line_end.LineEnd.TheVariants.{Words, Number}
 use Rattle.mm_text.proofs.LineLemmas.{keyword_of_word-is, keyword_of_word-spelled, line_behind-is, line_in-spells, spells-line_in, form_behind-is, form-has_form}
 use borrow.Author.Tests.{ne_eqb}
 

@@ -4,11 +4,14 @@ use Rattle.std.proofs.lemmas.Bool.{false≢true}
 use Rattle.std.proofs.lemmas.Option.{none-some, same_Some}
 use Rattle.std.specs.List.{slice_get}
 use Rattle.std.specs.Result.{IfOk, IfErr}
+use Rattle.mm_base.specs.End.{EndsBy, out_of_memory}
+use Rattle.mm_base.specs.declared.end.End.{End}
+use Rattle.mm_base.specs.declared.end.End.TheVariants as end
 use Rattle.mm_base.specs.declared.text.TextKind.TheVariants.{Unknown, Order, Words, Number, Range, Missing}
 use Rattle.mm_text.specs.Fields.{Spells, HasForm, keyword_of}
 use Rattle.mm_text.specs.ScriptText.{lines_of, words_of, is_comment, is_passed, has_none, may_stand, Says, IsScript}
-use Rattle.mm_text.specs.Refusal.{first_of, IsKeyword, IsFault, Missed, SaysFault}
-use Rattle.mm_text.specs.ScriptReader.{is_empty, stands_in, accepts, behind, built, fault_of, ended_at, StandsFor, GoesOn, Passed, Accepted, IsFaulty, SaysRefused, HasRead, SaysStopped}
+use Rattle.mm_text.specs.Refusal.{first_of, IsKeyword, IsFault, IsRefusedLine, Missed}
+use Rattle.mm_text.specs.ScriptReaderInside.{is_empty, stands_in, accepts, behind, built, fault_of, ended_at, StandsFor, GoesOn, Passed, Accepted, IsFaulty, SaysRefused, HasRead}
 use Rattle.mm_text.proofs.BuilderLemmas.{stands-may_stand, accepts-in_range, stands-behind, phase-empty, built-script}
 use Rattle.mm_text.proofs.JudgeLemmas.{IsKnown, refused-unknown, refused-order, refused-words, refused-number, refused-range, accepted-line}
 use Rattle.mm_text.proofs.SaysLemmas.{says-passed, says-more}
@@ -16,13 +19,11 @@ use Rattle.mm_text.proofs.TextLemmas.{missing-text, script-unique, never-both, f
 use Rattle.comm_core.specs.declared.script.Script.{Script}
 use Rattle.mm_text.specs.declared.line.Keyword.{Keyword}
 use Rattle.mm_text.specs.declared.line.Line.{Line}
-use Rattle.mm_text.specs.declared.line_reader.LineEnd.{LineEnd}
-use Rattle.mm_text.specs.declared.line_reader.LineEnd.TheVariants as line_end
+use Rattle.mm_text.specs.declared.line_end.LineEnd.{LineEnd}
+use Rattle.mm_text.specs.declared.line_end.LineEnd.TheVariants as line_end
 use Rattle.mm_text.specs.declared.script_builder.ScriptBuilder.{ScriptBuilder}
 use Rattle.mm_text.specs.declared.script_reader.LineFault.{LineFault}
 use Rattle.mm_text.specs.declared.script_reader.LineFault.TheVariants as fault
-use Rattle.mm_text.specs.declared.text_end.TextEnd.{TextEnd}
-use Rattle.mm_text.specs.declared.text_end.TextEnd.TheVariants as end
 use Rattle.mm_text.specs.declared.text_end.TextFault.{TextFault}
 
 -- words begin with this word, which is no comment's
@@ -139,7 +140,7 @@ pub faulty-end : (handlers : Bool) (words also : List (List ℕ)) (keyword : Key
 faulty-end handlers words also keyword builder h same line_end.Words none form number before s = faulty-words handlers words also keyword builder h same (none refl) before s
 faulty-end handlers words also keyword builder h same line_end.Number none form number before s =
     faulty-number handlers words also keyword builder h same (form refl) (number refl) before s
-faulty-end handlers words also keyword builder h same line_end.NoMemory none form number before s = tt
+faulty-end handlers words also keyword builder h same (line_end.NoMemory refused) none form number before s = tt
 
 read_by : (handlers : Bool) (front : List (List ℕ)) (line : List ℕ) (before : List Line) (next : ScriptBuilder) → Says handlers front before
     → GoesOn handlers before (words_of line) next → HasRead handlers (front ++ line ∷ []) next
@@ -153,15 +154,16 @@ pub read-more : (handlers : Bool) (front : List (List ℕ)) (line : List ℕ) (b
 read-more handlers front line builder next r go = read_by handlers front line r.lines next r.says (go r.lines r.stands)
 
 stopped_by : (handlers : Bool) (text : List (List ℕ)) (n : ℕ) (line : List ℕ) (before : List Line) (fault : LineFault) → Says handlers (take n text) before
-    → slice_get text n ≡ Some line → SaysRefused handlers before (words_of line) fault → SaysStopped handlers text (ended_at (n + 1) fault)
+    → slice_get text n ≡ Some line → SaysRefused handlers before (words_of line) fault
+    → EndsBy (IsRefusedLine handlers text) (ended_at (n + 1) fault)
 stopped_by handlers text n line before (fault.Refused kind) s there r =
     record { n = n; at = refl; first = record { before = before; says = s; line = line; there = there; said = r.said; refused = r.refused } }
-stopped_by handlers text n line before fault.NoMemory s there r = tt
+stopped_by handlers text n line before (fault.NoMemory refused) s there r = tt
 
 -- a line is refused behind those that were read
 pub stopped-at : (handlers : Bool) (text front : List (List ℕ)) (n : ℕ) (line : List ℕ) (builder : ScriptBuilder) (fault : LineFault) → HasRead handlers front builder
     → front ≡ take n text → slice_get text n ≡ Some line → ((before : List Line) → StandsFor before builder → SaysRefused handlers before (words_of line) fault)
-    → SaysStopped handlers text (ended_at (n + 1) fault)
+    → EndsBy (IsRefusedLine handlers text) (ended_at (n + 1) fault)
 stopped-at handlers text front n line builder fault r same there refused =
     let P : List (List ℕ) → Type 0 = λ lines. Says handlers lines r.lines in
     stopped_by handlers text n line r.lines fault (subst P same r.says) there (refused r.lines r.stands)
@@ -191,14 +193,16 @@ missing-read handlers text builder r empty =
     Missed (missing-text handlers (lines_of text) (subst P none r.says))
 
 -- what is answered where a text spells a script, and where it has a fault
-pub found-only : (handlers : Bool) (text : List ℕ) (result : Result Script TextEnd) → IfOk result (IsScript handlers text) → IfErr result (SaysFault handlers text)
-    → (script : Script) → IsScript handlers text script → (result ≡ Ok script) ⊎ (result ≡ Err end.NoMemory)
+pub found-only : (handlers : Bool) (text : List ℕ) (result : Result Script (End TextFault))
+    → IfOk result (IsScript handlers text) → IfErr result (EndsBy (IsFault handlers text))
+    → (script : Script) → IsScript handlers text script → (result ≡ Ok script) ⊎ (result ≡ Err (end.NoMemory out_of_memory))
 found-only handlers text (Ok other) ok err script s = inl (ap Ok (script-unique handlers text other script ok s))
 found-only handlers text (Err (end.Fault fault)) ok err script s = absurd (never-both handlers text script fault s err)
-found-only handlers text (Err end.NoMemory) ok err script s = inr refl
+found-only handlers text (Err (end.NoMemory refused)) ok err script s = inr refl
 
-pub first-only : (handlers : Bool) (text : List ℕ) (result : Result Script TextEnd) → IfOk result (IsScript handlers text) → IfErr result (SaysFault handlers text)
-    → (fault : TextFault) → IsFault handlers text fault → (result ≡ Err (end.Fault fault)) ⊎ (result ≡ Err end.NoMemory)
+pub first-only : (handlers : Bool) (text : List ℕ) (result : Result Script (End TextFault))
+    → IfOk result (IsScript handlers text) → IfErr result (EndsBy (IsFault handlers text))
+    → (fault : TextFault) → IsFault handlers text fault → (result ≡ Err (end.Fault fault)) ⊎ (result ≡ Err (end.NoMemory out_of_memory))
 first-only handlers text (Ok script) ok err fault f = absurd (never-both handlers text script fault ok f)
 first-only handlers text (Err (end.Fault other)) ok err fault f = inl (ap (λ x. Err (end.Fault x)) (fault-unique handlers text other fault err f))
-first-only handlers text (Err end.NoMemory) ok err fault f = inr refl
+first-only handlers text (Err (end.NoMemory refused)) ok err fault f = inr refl

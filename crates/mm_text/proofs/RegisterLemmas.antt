@@ -4,7 +4,7 @@ use Rattle.std.proofs.lemmas.Bool.{cases_eq, eq-eqb, ne_eqb, ltb-true}
 use Rattle.std.proofs.lemmas.List.{length-set, get_or-set_same, get_or-set_other, length-replicate}
 use Rattle.std.specs.List.{list_all}
 use Rattle.mm_text.specs.ScriptText.{are_distinct}
-use Rattle.mm_text.specs.ScriptReader.{are_registers}
+use Rattle.mm_text.specs.ScriptReaderInside.{are_registers}
 use Rattle.mm_text.specs.declared.line.Named.{Named}
 
 -- whether a register is flagged

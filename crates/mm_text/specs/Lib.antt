@@ -1,10 +1,10 @@
 pub mod Adds
 pub mod Fields
 pub mod Limits
-pub mod LineReader
+pub mod LineReaderInside
 pub mod Refusal
 pub mod Report
-pub mod ScriptReader
+pub mod ScriptReaderInside
 pub mod ScriptText
 pub mod TextLaws
 pub mod VolumeLines

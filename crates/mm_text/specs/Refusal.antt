@@ -6,8 +6,6 @@ use Rattle.mm_text.specs.Fields.{Spells, HasForm, letters_of, keyword_of}
 use Rattle.mm_text.specs.ScriptText.{lines_of, words_of, is_passed, said_in, is_of_text, may_stand, is_in_range, Says}
 use Rattle.mm_text.specs.declared.line.Keyword.{Keyword}
 use Rattle.mm_text.specs.declared.line.Line.{Line}
-use Rattle.mm_text.specs.declared.text_end.TextEnd.{TextEnd}
-use Rattle.mm_text.specs.declared.text_end.TextEnd.TheVariants as end
 use Rattle.mm_text.specs.declared.text_end.TextFault.{TextFault}
 
 -- the first word of a line
@@ -73,8 +71,3 @@ pub record IsRefusedLine (handlers : Bool) (text : List (List ℕ)) (fault : Tex
 pub data IsFault (handlers : Bool) (text : List ℕ) (fault : TextFault) : Type 0 where
   Missed : IsMissing (lines_of text) fault → IsFault handlers text fault
   RefusedLine : IsRefusedLine handlers (lines_of text) fault → IsFault handlers text fault
-
--- what a reader's refusal says of the text; want of memory says nothing
-abbrev pub SaysFault : Bool → List ℕ → TextEnd → Type 0
-SaysFault handlers text (end.Fault fault) = IsFault handlers text fault
-SaysFault handlers text end.NoMemory = Unit {0}

@@ -75,14 +75,14 @@ fault_word Alignment = codes "alignment"
 fault_word Break = codes "break"
 fault_word NativeCall = codes "nativecall"
 
--- The words for how an invocation ended. In a run that ends well none ends for want of memory; that this too has a
--- word spares a condition.
+-- The words for how an invocation ended. In a run that ends well none ends out of memory; that this too has a word
+-- spares a condition.
 unfoldable pub end_words : Ended → List ℕ
 end_words (Returned status) = codes "returned " ++ x16 status
 end_words (Denied why at) = codes "denied " ++ why_words why ++ codes " at " ++ x16 at
 end_words (Fuel at) = codes "fuel at " ++ x16 at
 end_words (Fault kind at) = codes "fault " ++ fault_word kind ++ codes " at " ++ x16 at
-end_words NoMemory = codes "nomemory"
+end_words (NoMemory refused) = codes "nomemory"
 
 -- the line of a denial
 unfoldable pub denial_line : Denial → List ℕ

@@ -1,11 +1,10 @@
 //! How one word of a line is read; the cost is linear in its bytes.
-ghost use Rattle.std.specs.Prelude.{◌≡◌, ◌≤◌, ◌^◌, Some, None, MatchOption};
-ghost use Rattle.mm_text.specs.LineReader.{split_at as split_of, number_in, decimal_in, hexadecimal_in, bytes_in, owner_in, cells_in, pair_in, has_equals as has_equals_in, numbered, Gives};
+ghost use Rattle.std.specs.Prelude.{◌≡◌, ◌≤◌, ◌^◌, Some, None, MatchOption, vec_len, IfOk};
+ghost use Rattle.mm_text.specs.LineReaderInside.{split_at as split_of, number_in, decimal_in, hexadecimal_in, bytes_in, owner_in, cells_in, pair_in, has_equals as has_equals_in, numbered, Gives};
 
 use crate::line::{CellKind, Named};
-use crate::line_reader::LineEnd;
-use hex::FromHexError;
-use mm_base::{Guid, List};
+use crate::line_end::LineEnd;
+use mm_base::{Guid, List, NoMemory};
 use std::alloc::Global;
 use std::str;
 
@@ -54,19 +53,26 @@ fn read_number(word: &[u8], base: u32, most: usize) -> Option<u64>
 }
 
 /// The bytes of an even count of hexadecimal digits of either case.
-#[tactic(auto, unfolding(crate::specs::LineReader::bytes_in))]
+#[tactic(auto, unfolding(crate::specs::LineReaderInside::bytes_in))]
 pub(crate) fn read_bytes(alloc: Global, word: &[u8]) -> Result<List<u8>, LineEnd>
     ensures { Gives (numbered (bytes_in word.now)) result }
 {
-    match hex::decode(alloc, word) {
-        Ok(bytes) => Ok(List::from_vec(bytes)),
-        Err(FromHexError::OutOfMemory) => Err(LineEnd::NoMemory),
+    let mut bytes = zeros(alloc, word.len() / 2)?;
+    match hex::decode_to_slice(word, bytes.as_mut_slice()) {
+        Ok(()) => Ok(List::from_vec(bytes)),
         Err(_) => Err(LineEnd::Number),
     }
 }
 
+/// As many bytes 0.
+fn zeros(alloc: Global, count: usize) -> Result<Vec<u8>, NoMemory>
+    ensures { IfOk result (λ bytes. vec_len bytes ≡ count) }
+{
+    Ok(vec![in alloc; 0u8; count]?)
+}
+
 /// Whom a stub is registered for: the root chain by the word `root`, or a GUID.
-#[tactic(auto, unfolding(crate::specs::LineReader::owner_in))]
+#[tactic(auto, unfolding(crate::specs::LineReaderInside::owner_in))]
 pub(crate) fn read_owner(word: &[u8]) -> Result<Option<Guid>, LineEnd>
     ensures { result ≡ numbered (owner_in word.now) }
 {
@@ -83,7 +89,7 @@ pub(crate) fn read_owner(word: &[u8]) -> Result<Option<Guid>, LineEnd>
 }
 
 /// A kind of cells.
-#[tactic(auto, unfolding(crate::specs::LineReader::cells_in))]
+#[tactic(auto, unfolding(crate::specs::LineReaderInside::cells_in))]
 pub(crate) fn read_cells(word: &[u8]) -> Option<CellKind>
     ensures { result ≡ cells_in word.now }
 {
@@ -100,7 +106,7 @@ pub(crate) fn read_cells(word: &[u8]) -> Option<CellKind>
 }
 
 /// Whether a word has a `=`.
-#[tactic(auto, unfolding(crate::specs::LineReader::has_equals))]
+#[tactic(auto, unfolding(crate::specs::LineReaderInside::has_equals))]
 pub(crate) fn has_equals(word: &[u8]) -> bool
     ensures { result ≡ has_equals_in word.now }
 {
@@ -108,7 +114,7 @@ pub(crate) fn has_equals(word: &[u8]) -> bool
 }
 
 /// A register's number and its value, with the first `=` between them.
-#[tactic(auto, unfolding(crate::specs::LineReader::pair_in))]
+#[tactic(auto, unfolding(crate::specs::LineReaderInside::pair_in))]
 pub(crate) fn read_pair(word: &[u8]) -> Option<Named>
     ensures { result ≡ pair_in word.now }
 {

@@ -1,6 +1,6 @@
 //! The keyword that a line begins with.
 ghost use Rattle.std.specs.Prelude.{◌≡◌, None, IfSome};
-ghost use Rattle.mm_text.specs.LineReader.{keyword_of_word};
+ghost use Rattle.mm_text.specs.LineReaderInside.{keyword_of_word};
 ghost use Rattle.mm_text.specs.Refusal.{IsKeyword};
 ghost use Rattle.mm_text.specs.ScriptText.{is_of_text};
 ghost use Rattle.mm_text.specs.declared.line.Keyword.{Keyword};
@@ -31,7 +31,7 @@ fn is_said(keyword: Keyword, handlers: bool) -> bool
 }
 
 /// The keyword that a word spells.
-#[tactic(auto, unfolding(crate::specs::LineReader::keyword_of_word))]
+#[tactic(auto, unfolding(crate::specs::LineReaderInside::keyword_of_word))]
 fn spelled(word: &[u8]) -> Option<Keyword>
     ensures { result ≡ keyword_of_word word.now }
 {

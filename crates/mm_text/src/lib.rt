@@ -1,4 +1,5 @@
-//! Texts: scripts as they are read, and reports as they are written.
+//! Floor: texts. It promises that a text is read as the one script that it spells or refused at its first fault, and that a report
+//! has just the bytes that its definition says. It never runs a script, and never reads or writes a stream.
 #![tactic(auto)]
 
 mod entry_text;
@@ -6,6 +7,7 @@ mod fields;
 mod keyword;
 pub mod laws;
 mod line;
+mod line_end;
 mod line_reader;
 mod page;
 mod record_text;

@@ -2,39 +2,19 @@
 ghost use Rattle.std.specs.Prelude.{◌≡◌, [], ◌∷◌, map, is_some, Err, IfOk};
 ghost use Rattle.std.specs.List.{list_all};
 ghost use Rattle.mm_text.specs.Fields.{letters_of, keyword_of, Spells, HasForm};
-ghost use Rattle.mm_text.specs.LineReader.{has_equals as has_equals_in, cells_in, pairs_in, lanes_in, cell_in, handler_in, poke_in, fill_in, ring_in, step_in, run_in, line_behind, form_behind, numbered, judged, Gives};
+ghost use Rattle.mm_text.specs.LineReaderInside.{has_equals as has_equals_in, cells_in, pairs_in, lanes_in, cell_in, handler_in, poke_in, fill_in, ring_in, step_in, run_in, line_behind, form_behind, numbered, judged, Gives};
 ghost use Rattle.mm_text.specs.Refusal.{first_of};
 ghost use Rattle.mm_text.specs.declared.line.Keyword.TheVariants as keywords;
 ghost use Rattle.mm_text.specs.declared.line.Line.{Line};
-ghost use Rattle.mm_text.specs.declared.line_reader.LineEnd.TheVariants.{Words, Number};
+ghost use Rattle.mm_text.specs.declared.line_end.LineEnd.TheVariants.{Words, Number};
 
 use crate::fields::{
     has_equals, read_bytes, read_cells, read_decimal, read_hexadecimal, read_owner, read_pair,
 };
 use crate::line::{Keyword, Line, Named};
-use mm_base::{List, NoMemory};
+use crate::line_end::LineEnd;
+use mm_base::List;
 use std::alloc::Global;
-
-/// Why a line is not read.
-#[derive(Clone, Copy, Debug, PartialEq, Eq)]
-pub enum LineEnd {
-    /// Its words have the form of no line that begins so.
-    Words,
-    /// One of its words can't be read in the form that its place has.
-    Number,
-    /// Memory was refused.
-    NoMemory,
-}
-
-impl From<NoMemory> for LineEnd {
-    ghost use Rattle.mm_text.specs.declared.line_reader.LineEnd.TheVariants.{NoMemory as WantsMemory};
-
-    ghost from_gives = { λ _ end. end ≡ WantsMemory };
-
-    fn from(_: NoMemory) -> Self {
-        LineEnd::NoMemory
-    }
-}
 
 /// Reads a line from all its words, the first of which is its keyword; the cost is linear in their bytes.
 pub fn read_line(alloc: Global, keyword: Keyword, words: &[&[u8]]) -> Result<Line, LineEnd>
@@ -77,7 +57,7 @@ fn read_lanes(words: &[&[u8]]) -> Result<Line, LineEnd>
 }
 
 /// A `lanes` line by its number of lanes and their number of data words.
-#[tactic(auto, unfolding(crate::specs::LineReader::lanes_in))]
+#[tactic(auto, unfolding(crate::specs::LineReaderInside::lanes_in))]
 fn lanes_line(lanes: &[u8], words: &[u8]) -> Result<Line, LineEnd>
     ensures { result ≡ numbered (lanes_in (lanes.now ∷ words.now ∷ [])) }
 {
@@ -97,7 +77,7 @@ fn read_cell(words: &[&[u8]]) -> Result<Line, LineEnd>
 }
 
 /// A `cell` line by its kind of cells, its place and its value; the kind belongs to the form.
-#[tactic(auto, unfolding(crate::specs::LineReader::cell_in))]
+#[tactic(auto, unfolding(crate::specs::LineReaderInside::cell_in))]
 fn cell_line(kind: &[u8], at: &[u8], value: &[u8]) -> Result<Line, LineEnd>
     ensures { result ≡ judged (is_some (cells_in kind.now)) (cell_in (kind.now ∷ at.now ∷ value.now ∷ [])) }
 {
@@ -120,7 +100,7 @@ fn read_handler(words: &[&[u8]]) -> Result<Line, LineEnd>
 }
 
 /// A `handler` line by its owner and its status.
-#[tactic(auto, unfolding(crate::specs::LineReader::handler_in))]
+#[tactic(auto, unfolding(crate::specs::LineReaderInside::handler_in))]
 fn handler_line(owner: &[u8], status: &[u8]) -> Result<Line, LineEnd>
     ensures { result ≡ numbered (handler_in (owner.now ∷ status.now ∷ [])) }
 {
@@ -140,7 +120,7 @@ fn read_poke(words: &[&[u8]]) -> Result<Line, LineEnd>
 }
 
 /// A `poke` line by its lane, its word and its value.
-#[tactic(auto, unfolding(crate::specs::LineReader::poke_in))]
+#[tactic(auto, unfolding(crate::specs::LineReaderInside::poke_in))]
 fn poke_line(lane: &[u8], word: &[u8], value: &[u8]) -> Result<Line, LineEnd>
     ensures { result ≡ numbered (poke_in (lane.now ∷ word.now ∷ value.now ∷ [])) }
 {
@@ -161,7 +141,7 @@ fn read_fill(alloc: Global, words: &[&[u8]]) -> Result<Line, LineEnd>
 }
 
 /// A `fill` line by its lane and its digits.
-#[tactic(auto, unfolding(crate::specs::LineReader::fill_in))]
+#[tactic(auto, unfolding(crate::specs::LineReaderInside::fill_in))]
 fn fill_line(alloc: Global, lane: &[u8], digits: &[u8]) -> Result<Line, LineEnd>
     ensures { Gives (numbered (fill_in (lane.now ∷ digits.now ∷ []))) result }
 {
@@ -181,7 +161,7 @@ fn read_ring(alloc: Global, words: &[&[u8]]) -> Result<Line, LineEnd>
 }
 
 /// A `ring` line by its lane and its pairs; that each pair has a `=` belongs to the form.
-#[tactic(auto, unfolding(crate::specs::LineReader::ring_in))]
+#[tactic(auto, unfolding(crate::specs::LineReaderInside::ring_in))]
 fn ring_line(alloc: Global, lane: &[u8], pairs: &[&[u8]]) -> Result<Line, LineEnd>
     ensures { Gives (judged (list_all has_equals_in (map (λ word. word.now) pairs.now)) (ring_in (lane.now ∷ map (λ word. word.now) pairs.now))) result }
 {
@@ -231,7 +211,7 @@ fn read_step(words: &[&[u8]]) -> Result<Line, LineEnd>
 }
 
 /// A `step` line by its lane.
-#[tactic(auto, unfolding(crate::specs::LineReader::step_in))]
+#[tactic(auto, unfolding(crate::specs::LineReaderInside::step_in))]
 fn step_line(lane: &[u8]) -> Result<Line, LineEnd>
     ensures { result ≡ numbered (step_in (lane.now ∷ [])) }
 {
@@ -240,7 +220,7 @@ fn step_line(lane: &[u8]) -> Result<Line, LineEnd>
 }
 
 /// A `step` line by its lane and its count.
-#[tactic(auto, unfolding(crate::specs::LineReader::step_in))]
+#[tactic(auto, unfolding(crate::specs::LineReaderInside::step_in))]
 fn steps_line(lane: &[u8], count: &[u8]) -> Result<Line, LineEnd>
     ensures { result ≡ numbered (step_in (lane.now ∷ count.now ∷ [])) }
 {
@@ -260,7 +240,7 @@ fn read_run(words: &[&[u8]]) -> Result<Line, LineEnd>
 }
 
 /// A `run` line by its lane.
-#[tactic(auto, unfolding(crate::specs::LineReader::run_in))]
+#[tactic(auto, unfolding(crate::specs::LineReaderInside::run_in))]
 fn run_line(lane: &[u8]) -> Result<Line, LineEnd>
     ensures { result ≡ numbered (run_in (lane.now ∷ [])) }
 {

@@ -101,7 +101,7 @@ fn put_end(page: &mut Page, ended: Ended) -> Result<(), NoMemory>
         Ended::Denied(why, at) => put_denied(page, why, at),
         Ended::Fuel(at) => put_at(page, b"fuel at ", at),
         Ended::Fault(kind, at) => put_fault(page, kind, at),
-        Ended::NoMemory => page.put(b"nomemory"),
+        Ended::NoMemory(_) => page.put(b"nomemory"),
     }
 }
 

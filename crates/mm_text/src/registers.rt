@@ -1,6 +1,6 @@
 //! The saved registers that a `ring` line names.
 ghost use Rattle.std.specs.Prelude.{◌≡◌};
-ghost use Rattle.mm_text.specs.ScriptReader.{are_registers as are_named_registers};
+ghost use Rattle.mm_text.specs.ScriptReaderInside.{are_registers as are_named_registers};
 ghost use Rattle.mm_text.specs.ScriptText.{saved_of, value_of};
 
 use crate::line::Named;

@@ -3,15 +3,15 @@ ghost use Rattle.std.specs.Prelude.{◌≡◌, ◌+◌, ◌*◌, ◌^◌, ◌<�
 ghost use Rattle.mm_base.specs.Cells.{may_hold};
 ghost use Rattle.mm_base.specs.Numbers.{words_of_bytes};
 ghost use Rattle.mm_text.specs.ScriptText.{pokes, kind_of, place_of};
-ghost use Rattle.mm_text.specs.ScriptReader.{IsSmall, StandsFor, accepts, behind, built, happened, is_empty as has_no_line, stands_in};
+ghost use Rattle.mm_text.specs.ScriptReaderInside.{IsSmall, StandsFor, accepts, behind, built, happened, is_empty as has_no_line, stands_in};
 ghost use Rattle.mm_text.specs.declared.line.Line.{Line};
 
 use crate::line::{CellKind, Keyword, Line, Named};
 use crate::registers::{are_registers, saved_registers};
 use comm_core::{Event, Script};
 use mm_base::{
-    CellWrite, DEVICE_BYTES, DEVICE_WINDOW, Guid, Handler, HandlerBody, Kind, List, NoMemory,
-    Opening, is_cell, word_at,
+    CellWrite, DEVICE_WINDOW, Guid, Handler, HandlerBody, Kind, List, NoMemory, Opening, is_cell,
+    word_at,
 };
 use std::alloc::Global;
 
@@ -31,9 +31,6 @@ const MOST_RINGS: u32 = 8192;
 
 /// The most actions that one line steps.
 const MOST_STEPS: u64 = 2048;
-
-/// The most bytes that one line fills: those of 512 data words.
-const MOST_BYTES: usize = 4096;
 
 /// How far the lines of a text have come.
 #[derive(Clone, Copy, Debug, PartialEq, Eq)]
@@ -104,7 +101,7 @@ impl ScriptBuilder {
                     && FEWEST_WORDS <= *words
                     && *words <= MOST_WORDS
             }
-            Line::Cell { kind, at, value } => may_hold(*kind, *at, *value),
+            Line::Cell { kind, at, value } => is_cell_in_range(*kind, *at, *value),
             Line::Handler { .. } => self.handlers.len() < MOST_HANDLERS,
             Line::Poke { lane, word, .. } => {
                 self.has_lane(*lane) && *word < u64::from(self.words) + 2
@@ -208,7 +205,7 @@ impl ScriptBuilder {
     }
 
     fn take_fill(&mut self, lane: u32, bytes: &[u8]) -> Result<(), NoMemory>
-        requires { length bytes.now ≤ MOST_BYTES }
+        requires { length bytes.now ≤ 4096 }
         ensures { OnOk result (self.new ≡ behind self.old (Line.Fill lane bytes.now)) }
     {
         self.phase = Phase::Happening;
@@ -244,7 +241,7 @@ impl ScriptBuilder {
 
 /// Puts a poke of each word that the bytes fill.
 fn put_words(events: &mut List<Event>, lane: u32, bytes: &[u8]) -> Result<(), NoMemory>
-    requires { length bytes.now ≤ MOST_BYTES }
+    requires { length bytes.now ≤ 4096 }
     ensures { OnOk result (events.new ≡ events.old ++ pokes lane 2 (words_of_bytes bytes.now)) }
 {
     let words = (bytes.len() + 7) / 8;
@@ -259,14 +256,14 @@ fn put_words(events: &mut List<Event>, lane: u32, bytes: &[u8]) -> Result<(), No
 }
 
 /// Whether the platform has the cell of a `cell` line, and it may hold this value.
-fn may_hold(kind: CellKind, at: u64, value: u64) -> bool
+fn is_cell_in_range(kind: CellKind, at: u64, value: u64) -> bool
     ensures { result ≡ may_hold (kind_of kind) (place_of kind at) value }
 {
     match kind {
         CellKind::Io => is_cell(Kind::Io, at, value),
         CellKind::Msr => is_cell(Kind::Msr, at, value),
         CellKind::Device => {
-            at < DEVICE_BYTES && is_cell(Kind::Memory, DEVICE_WINDOW + at, value)
+            at < DEVICE_WINDOW.length && is_cell(Kind::Memory, DEVICE_WINDOW.base + at, value)
         }
     }
 }
@@ -288,6 +285,6 @@ fn place_of_cell(kind: CellKind, at: u64) -> u64
 {
     match kind {
         CellKind::Io | CellKind::Msr => at,
-        CellKind::Device => DEVICE_WINDOW + at,
+        CellKind::Device => DEVICE_WINDOW.base + at,
     }
 }

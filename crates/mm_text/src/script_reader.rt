@@ -1,19 +1,21 @@
 //! How the text of a script is read: in one pass, line by line.
 ghost use Rattle.std.specs.Prelude.{◌≡◌, ◌+◌, ◌≤◌, ◌⊎◌, true, false, length, map, List, slice_get, option_copied, IfOk, IfErr, OnOk};
+ghost use Rattle.mm_base.specs.End.{EndsBy, out_of_memory};
 ghost use Rattle.mm_text.specs.Limits.{IsWithinLimits};
-ghost use Rattle.mm_text.specs.Refusal.{IsFault, SaysFault, first_of};
-ghost use Rattle.mm_text.specs.ScriptReader.{GoesOn, HasRead, IsSmall, SaysRefused, SaysStopped, StandsFor, ended_at};
+ghost use Rattle.mm_text.specs.Refusal.{IsFault, IsRefusedLine, first_of};
+ghost use Rattle.mm_text.specs.ScriptReaderInside.{GoesOn, HasRead, IsSmall, SaysRefused, StandsFor, ended_at};
 ghost use Rattle.mm_text.specs.ScriptText.{IsScript, is_comment, is_passed, lines_of, words_of as words_said};
 ghost use Rattle.mm_text.specs.declared.line.Line.{Line};
 ghost use Rattle.comm_core.specs.declared.script.Script.{Script};
 ghost use Rattle.mm_text.specs.declared.text_end.TextFault.{TextFault};
 
 use crate::keyword::keyword_in;
-use crate::line_reader::{LineEnd, read_line};
+use crate::line_end::LineEnd;
+use crate::line_reader::read_line;
 use crate::script_builder::ScriptBuilder;
 use crate::text_end::{TextEnd, TextFault};
 use comm_core::Script;
-use mm_base::{NoMemory, TextKind};
+use mm_base::{End, NoMemory, TextKind};
 use std::alloc::Global;
 
 const LINE_FEED: u8 = 10;
@@ -28,8 +30,8 @@ const HASH: u8 = 35;
 enum LineFault {
     /// It is refused.
     Refused(TextKind),
-    /// Memory was refused.
-    NoMemory,
+    /// A growth was refused.
+    NoMemory(NoMemory),
 }
 
 impl LineFault {
@@ -38,24 +40,24 @@ impl LineFault {
         ensures { result ≡ ended_at line self }
     {
         match self {
-            LineFault::Refused(kind) => TextEnd::Fault(TextFault { line, kind }),
-            LineFault::NoMemory => TextEnd::NoMemory,
+            LineFault::Refused(kind) => End::Fault(TextFault { line, kind }),
+            LineFault::NoMemory(refused) => End::NoMemory(refused),
         }
     }
 }
 
 impl From<NoMemory> for LineFault {
-    ghost use Rattle.mm_text.specs.declared.script_reader.LineFault.TheVariants.{NoMemory as WantsMemory};
+    ghost use Rattle.mm_text.specs.declared.script_reader.LineFault.TheVariants.{NoMemory as OutOfMemory};
 
-    ghost from_gives = { λ _ fault. fault ≡ WantsMemory };
+    ghost from_gives = { λ refused fault. fault ≡ OutOfMemory refused };
 
-    fn from(_: NoMemory) -> Self {
-        LineFault::NoMemory
+    fn from(refused: NoMemory) -> Self {
+        LineFault::NoMemory(refused)
     }
 }
 
 impl From<LineEnd> for LineFault {
-    ghost use Rattle.mm_text.specs.ScriptReader.{fault_of};
+    ghost use Rattle.mm_text.specs.ScriptReaderInside.{fault_of};
 
     ghost from_gives = { λ end fault. fault ≡ fault_of end };
 
@@ -63,7 +65,7 @@ impl From<LineEnd> for LineFault {
         match end {
             LineEnd::Words => LineFault::Refused(TextKind::Words),
             LineEnd::Number => LineFault::Refused(TextKind::Number),
-            LineEnd::NoMemory => LineFault::NoMemory,
+            LineEnd::NoMemory(refused) => LineFault::NoMemory(refused),
         }
     }
 }
@@ -72,9 +74,11 @@ impl From<LineEnd> for LineFault {
 pub fn read_script(alloc: Global, bytes: &[u8], handlers: bool) -> Result<Script, TextEnd>
     requires { length bytes.now ≤ 16777216 }
     ensures script { IfOk result (IsScript handlers bytes.now) }
-    ensures fault { IfErr result (SaysFault handlers bytes.now) }
-    ensures found { (script : Script) → IsScript handlers bytes.now script → (result ≡ Ok script) ⊎ (result ≡ Err TextEnd.NoMemory) }
-    ensures first { (fault : TextFault) → IsFault handlers bytes.now fault → (result ≡ Err (TextEnd.Fault fault)) ⊎ (result ≡ Err TextEnd.NoMemory) }
+    ensures fault { IfErr result (EndsBy (IsFault handlers bytes.now)) }
+    ensures found { (script : Script) → IsScript handlers bytes.now script →
+        (result ≡ Ok script) ⊎ (result ≡ Err (End.NoMemory out_of_memory)) }
+    ensures first { (fault : TextFault) → IsFault handlers bytes.now fault →
+        (result ≡ Err (End.Fault fault)) ⊎ (result ≡ Err (End.NoMemory out_of_memory)) }
     ensures within { IfOk result IsWithinLimits }
 {
     script_in(alloc, bytes, handlers)
@@ -84,11 +88,11 @@ pub fn read_script(alloc: Global, bytes: &[u8], handlers: bool) -> Result<Script
 fn script_in(alloc: Global, bytes: &[u8], handlers: bool) -> Result<Script, TextEnd>
     requires { length bytes.now ≤ 16777216 }
     ensures script { IfOk result (IsScript handlers bytes.now) }
-    ensures fault { IfErr result (SaysFault handlers bytes.now) }
+    ensures fault { IfErr result (EndsBy (IsFault handlers bytes.now)) }
 {
     let builder = read_lines(alloc, bytes, handlers)?;
     if builder.is_empty() {
-        return Err(TextEnd::Fault(TextFault {
+        return Err(End::Fault(TextFault {
             line: 1,
             kind: TextKind::Missing,
         }));
@@ -99,7 +103,7 @@ fn script_in(alloc: Global, bytes: &[u8], handlers: bool) -> Result<Script, Text
 fn read_lines(alloc: Global, bytes: &[u8], handlers: bool) -> Result<ScriptBuilder, TextEnd>
     requires { length bytes.now ≤ 16777216 }
     ensures told { IfOk result (HasRead handlers (lines_of bytes.now)) }
-    ensures stopped { IfErr result (SaysStopped handlers (lines_of bytes.now)) }
+    ensures stopped { IfErr result (EndsBy (IsRefusedLine handlers (lines_of bytes.now))) }
 {
     let mut builder = ScriptBuilder::new(alloc);
     let mut number = 0;

@@ -1,5 +1,5 @@
 //! Why a text was not read.
-use mm_base::TextKind;
+use mm_base::{End, TextKind};
 
 /// The first refused line of a text, counted from 1, and the first kind that fits it.
 #[derive(Clone, Copy, Debug, PartialEq, Eq)]
@@ -9,10 +9,4 @@ pub struct TextFault {
 }
 
 /// Why a text was not read.
-#[derive(Clone, Copy, Debug, PartialEq, Eq)]
-pub enum TextEnd {
-    /// A line is refused.
-    Fault(TextFault),
-    /// Memory was refused.
-    NoMemory,
-}
+pub type TextEnd = End<TextFault>;

@@ -16,12 +16,12 @@ returns-in-Ok-clause-headline g c = λ is _.
 pub returns-in-Ok-clause-faulty : goal.returns-in-Ok-clause-faulty
 returns-in-Ok-clause-faulty g c = λ status holds calm. absurd (made_no_fault c.args.command _ _ c.in-Ok.made status c.in-Ok.ensures.ok holds)
 
--- good bytes that can be read are refused for want of memory alone
+-- good bytes that can be read are refused out of memory alone
 pub returns-in-Err-clause-complete : goal.returns-in-Err-clause-complete
 returns-in-Err-clause-complete g c = λ holds calm quiet.
     inr (c.refused.ensures.status ∙ refused_good c.args.command _ _ _ c.in-Err.status c.in-Err.ensures.err holds calm)
 
--- bytes with a fault are refused at it, or for want of memory
+-- bytes with a fault are refused at it, or out of memory
 pub returns-in-Err-clause-faulty : goal.returns-in-Err-clause-faulty
 returns-in-Err-clause-faulty g c = λ status holds calm.
     elim (refused_fault c.args.command _ _ _ c.in-Err.status status c.in-Err.ensures.err holds calm) [

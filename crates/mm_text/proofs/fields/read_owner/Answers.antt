@@ -1,5 +1,5 @@
 use Rattle.std.proofs.Common.{ap, sym}
-use Rattle.mm_text.specs.LineReader.{numbered}
+use Rattle.mm_text.specs.LineReaderInside.{numbered}
 use Rattle.mm_text.proofs.GuidLemmas.{owner-bytes}
 use Rattle.mm_text.proofs.fields.read_owner.Goals as goal
 

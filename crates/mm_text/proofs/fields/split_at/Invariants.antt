@@ -1,5 +1,5 @@
 use Rattle.std.proofs.Common.{◌≡◌, ◌++◌, take, drop, option_map}
-use Rattle.mm_text.specs.LineReader.{split_at as split_of}
+use Rattle.mm_text.specs.LineReaderInside.{split_at as split_of}
 use Rattle.mm_text.proofs.fields.split_at.Given as goal
 
 -- what stands in front of a place goes in front of what is found from there on

@@ -1,6 +1,6 @@
 use Rattle.std.proofs.Common.{◌≡◌, drop, map}
 use Rattle.std.specs.List.{list_all}
-use Rattle.mm_text.specs.LineReader.{has_equals}
+use Rattle.mm_text.specs.LineReaderInside.{has_equals}
 use Rattle.mm_text.proofs.line_reader.are_pairs.Given as goal
 
 -- all words have one where those that are left do

@@ -1,6 +1,6 @@
 use Rattle.std.proofs.Common.{sym, arith}
 use Rattle.std.proofs.lemmas.Bool.Decides.{nat_tests}
-use Rattle.mm_text.specs.LineReader.{form_behind, fill_in}
+use Rattle.mm_text.specs.LineReaderInside.{form_behind, fill_in}
 use Rattle.mm_text.specs.declared.line.Keyword.TheVariants as keyword
 use Rattle.mm_text.proofs.ReadLemmas.{judged_two, fill_form, judged_refused, not_fill, given_as}
 use Rattle.mm_text.proofs.line_reader.read_fill.Goals as goal

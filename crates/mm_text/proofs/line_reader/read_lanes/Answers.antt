@@ -1,6 +1,6 @@
 use Rattle.std.proofs.Common.{◌∙◌, arith}
 use Rattle.std.proofs.lemmas.Bool.Decides.{nat_tests}
-use Rattle.mm_text.specs.LineReader.{form_behind, lanes_in}
+use Rattle.mm_text.specs.LineReaderInside.{form_behind, lanes_in}
 use Rattle.mm_text.specs.declared.line.Keyword.TheVariants as keyword
 use Rattle.mm_text.proofs.ReadLemmas.{judged_two, lanes_form, judged_refused, not_lanes}
 use Rattle.mm_text.proofs.line_reader.read_lanes.Goals as goal

@@ -1,5 +1,5 @@
 use Rattle.std.proofs.Common.{◌≡◌, ◌++◌, drop, map, option_map}
-use Rattle.mm_text.specs.LineReader.{pairs_in}
+use Rattle.mm_text.specs.LineReaderInside.{pairs_in}
 use Rattle.mm_text.proofs.line_reader.read_pairs.Given as goal
 
 -- the pairs so far, with those that are left, are all

@@ -1,5 +1,5 @@
 use Rattle.std.proofs.Common.{◌≡◌, length, drop}
-use Rattle.mm_text.specs.ScriptReader.{are_registers}
+use Rattle.mm_text.specs.ScriptReaderInside.{are_registers}
 use Rattle.mm_text.proofs.RegisterLemmas.{are_fresh}
 use Rattle.mm_text.proofs.registers.are_registers.Given as goal
 

@@ -6,10 +6,13 @@ use Rattle.std.proofs.lemmas.Iterator.Consumers.{YieldsList-at, YieldsList-so_fa
 use Rattle.std.proofs.lemmas.Iterator.Splits.{YieldsList-from_slice_split}
 use Rattle.std.proofs.lemmas.List.{map_push, length_push}
 use Rattle.std.proofs.lemmas.Option.{slice_get-get_or}
-use Rattle.mm_text.specs.ScriptReader.{HasRead, SaysStopped, ended_at}
+use Rattle.mm_base.specs.End.{EndsBy}
+use Rattle.mm_base.specs.declared.end.End.{End}
+use Rattle.mm_text.specs.Refusal.{IsRefusedLine}
+use Rattle.mm_text.specs.ScriptReaderInside.{HasRead, ended_at}
 use Rattle.mm_text.specs.ScriptText.{lines_of}
+use Rattle.mm_text.specs.declared.text_end.TextFault.{TextFault}
 use Rattle.mm_text.proofs.ReaderLemmas.{read-more, stopped-at}
-use Rattle.mm_text.specs.declared.text_end.TextEnd.{TextEnd}
 use Rattle.mm_text.proofs.script_reader.read_lines.Goals as goal
 
 -- all items of a list were yielded
@@ -53,7 +56,7 @@ returns-in-Err-clause-stopped c =
     (YieldsList-at c.into_iter-line-iterator.ensures.into_iter_gives
     (YieldsList-from_slice_split _ (λ byte. byte == 10) c.args.bytes.now c.split-line-items.ensures.rest c.split-line-items.ensures.done c.split-line-items.ensures.closure
     (λ x r q k. search (rules, tests)))) in
-    let P : TextEnd → Type 0 = λ end. SaysStopped c.args.handlers (lines_of c.args.bytes.now) end in
+    let P : End TextFault → Type 0 = EndsBy (IsRefusedLine c.args.handlers (lines_of c.args.bytes.now)) in
     subst P (ap (λ (k : ℕ). ended_at (k + 1) c.in-Err.fault) (sym c.loop-line.invariant.number) ∙ sym c.at.ensures)
     (stopped-at c.args.handlers (lines_of c.args.bytes.now) (map (λ (line : Bor (List ℕ)). line.now) c.loop-line.yielded) n c.in-Some.line.now c.loop-line.builder c.in-Err.fault
     c.loop-line.invariant.read at.front at.there c.in-Err.ensures.refused)

@@ -1,5 +1,5 @@
 use Rattle.std.proofs.Common.{◌≡◌, length, map}
-use Rattle.mm_text.specs.ScriptReader.{HasRead, IsSmall}
+use Rattle.mm_text.specs.ScriptReaderInside.{HasRead, IsSmall}
 use Rattle.mm_text.proofs.script_reader.read_lines.Given as goal
 
 -- the lines so far were read

@@ -1,7 +1,10 @@
+-- No public clause cites this file.
 -- How a text is read in one pass: what is kept of the lines so far, and what each further line makes of it.
 use Rattle.std.specs.Prelude.{◌≡◌, ℕ, ◌+◌, ◌*◌, ◌≤◌, Bool, true, false, if◌then◌else◌, ◌&&◌, not, nat_lt, nat_le, List, [], ◌∷◌, ◌++◌, length, count_by}
 use Rattle.std.specs.List.{flat_map, list_all}
 use Rattle.mm_base.specs.Cells.{may_hold}
+use Rattle.mm_base.specs.declared.end.End.{End}
+use Rattle.mm_base.specs.declared.end.End.TheVariants as end
 use Rattle.mm_base.specs.declared.handler.HandlerBody.TheVariants.{Stub}
 use Rattle.mm_base.specs.declared.text.TextKind.{TextKind}
 use Rattle.mm_base.specs.declared.text.TextKind.TheVariants.{Words, Number}
@@ -9,22 +12,21 @@ use Rattle.mm_core.specs.Scripted.{numbered}
 use Rattle.comm_core.specs.declared.event.Event.{Event}
 use Rattle.comm_core.specs.declared.script.Script.{Script}
 use Rattle.mm_text.specs.Fields.{keyword_of}
-use Rattle.mm_text.specs.Refusal.{IsRefused, IsRefusedLine}
+use Rattle.mm_text.specs.Refusal.{IsRefused}
 use Rattle.mm_text.specs.ScriptText.{is_passed, is_event, has_none, lanes_in, words_in, kind_of, place_of, is_handler, is_ring, are_distinct, events_of, cells_of, stubs_of, Says, IsAccepted}
 use Rattle.mm_text.specs.declared.line.Keyword.{Keyword}
 use Rattle.mm_text.specs.declared.line.Keyword.TheVariants as keyword
 use Rattle.mm_text.specs.declared.line.Line.{Line}
 use Rattle.mm_text.specs.declared.line.Line.TheVariants.{Lanes, Cell, Handler, Poke, Fill, Ring, Step, Steps, Run}
 use Rattle.mm_text.specs.declared.line.Named.{Named}
-use Rattle.mm_text.specs.declared.line_reader.LineEnd.{LineEnd}
-use Rattle.mm_text.specs.declared.line_reader.LineEnd.TheVariants as line_end
+use Rattle.mm_text.specs.declared.line_end.LineEnd.{LineEnd}
+use Rattle.mm_text.specs.declared.line_end.LineEnd.TheVariants as line_end
 use Rattle.mm_text.specs.declared.script_builder.Phase.{Phase}
 use Rattle.mm_text.specs.declared.script_builder.Phase.TheVariants.{Empty, Opening, Happening}
 use Rattle.mm_text.specs.declared.script_builder.ScriptBuilder.{ScriptBuilder}
 use Rattle.mm_text.specs.declared.script_reader.LineFault.{LineFault}
 use Rattle.mm_text.specs.declared.script_reader.LineFault.TheVariants as fault
-use Rattle.mm_text.specs.declared.text_end.TextEnd.{TextEnd}
-use Rattle.mm_text.specs.declared.text_end.TextEnd.TheVariants as end
+use Rattle.mm_text.specs.declared.text_end.TextFault.{TextFault}
 
 -- how far lines have come: there is none, none says that something happens, or one does
 abbrev pub phase_of : List Line → Phase
@@ -114,29 +116,24 @@ pub record IsFaulty (handlers : Bool) (before : List Line) (words : List (List �
   pub said : is_passed words ≡ false
   pub refused : IsRefused handlers before words kind
 
--- what a refusal says of a line; want of memory says nothing
+-- what a refusal says of a line; out of memory says nothing
 abbrev pub SaysRefused : Bool → List Line → List (List ℕ) → LineFault → Type 0
 SaysRefused handlers before words (fault.Refused kind) = IsFaulty handlers before words kind
-SaysRefused handlers before words fault.NoMemory = Unit {0}
+SaysRefused handlers before words (fault.NoMemory refused) = Unit {0}
 
 -- the refusal of a line that was not read
 abbrev pub fault_of : LineEnd → LineFault
 fault_of line_end.Words = fault.Refused Words
 fault_of line_end.Number = fault.Refused Number
-fault_of line_end.NoMemory = fault.NoMemory
+fault_of (line_end.NoMemory refused) = fault.NoMemory refused
 
 -- the end of a text at the refusal of this line
-abbrev pub ended_at : ℕ → LineFault → TextEnd
+abbrev pub ended_at : ℕ → LineFault → End TextFault
 ended_at line (fault.Refused kind) = end.Fault (record { line = line; kind = kind })
-ended_at line fault.NoMemory = end.NoMemory
+ended_at line (fault.NoMemory refused) = end.NoMemory refused
 
 -- all lines of a text were read, and what is kept stands for what they say
 pub record HasRead (handlers : Bool) (text : List (List ℕ)) (builder : ScriptBuilder) : Type 0 where
   pub lines : List Line
   pub says : Says handlers text lines
   pub stands : StandsFor lines builder
-
--- what an end at a line says of the text; want of memory says nothing
-abbrev pub SaysStopped : Bool → List (List ℕ) → TextEnd → Type 0
-SaysStopped handlers text (end.Fault fault) = IsRefusedLine handlers text fault
-SaysStopped handlers text end.NoMemory = Unit {0}

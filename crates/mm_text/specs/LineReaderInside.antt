@@ -1,3 +1,4 @@
+-- No public clause cites this file.
 -- The lines of a script again, as functions from their words to what they say, and what reading functions answer.
 use Rattle.std.specs.Prelude.{◌≡◌, ℕ, Bool, true, false, ◌&&◌, ◌==◌, nat_le, if◌then◌else◌, List, [], ◌∷◌, length, codes, Option, Some, None, is_some, option_map, option_and_then, Result, Ok, Err, MatchResult}
 use Rattle.std.specs.Char.{is_digit}
@@ -15,8 +16,8 @@ use Rattle.mm_text.specs.declared.line.Keyword.TheVariants as keyword
 use Rattle.mm_text.specs.declared.line.Line.{Line}
 use Rattle.mm_text.specs.declared.line.Line.TheVariants.{Lanes, Cell, Handler, Poke, Fill, Ring, Step, Steps, Run}
 use Rattle.mm_text.specs.declared.line.Named.{Named}
-use Rattle.mm_text.specs.declared.line_reader.LineEnd.{LineEnd}
-use Rattle.mm_text.specs.declared.line_reader.LineEnd.TheVariants.{Words, Number, NoMemory}
+use Rattle.mm_text.specs.declared.line_end.LineEnd.{LineEnd}
+use Rattle.mm_text.specs.declared.line_end.LineEnd.TheVariants.{Words, Number, NoMemory}
 
 -- a second step, where the first gave something
 infixl 10 ◌>>=◌
@@ -222,12 +223,12 @@ numbered (Some said) = Ok said
 abbrev pub judged : Bool → Option Line → Result Line LineEnd
 judged form said = if form then numbered said else Err Words
 
--- an end is the one that is to be answered; want of memory says nothing
+-- an end is the one that is to be answered; out of memory says nothing
 abbrev pub IsEnd : {A : Type 0} → Result A LineEnd → LineEnd → Type 0
 IsEnd said Words = said ≡ Err Words
 IsEnd said Number = said ≡ Err Number
-IsEnd said NoMemory = Unit {0}
+IsEnd said (NoMemory refused) = Unit {0}
 
--- a reading function gives what is to be answered, or wants memory
+-- a reading function gives what is to be answered, or is out of memory
 abbrev pub Gives : {A : Type 0} → Result A LineEnd → Result A LineEnd → Type 0
 Gives said result = MatchResult result (λ value. said ≡ Ok value) (IsEnd said)
