@@ -68,7 +68,7 @@ impl<'a> Fault<'a> {
                 name: name_of(which, first, second),
                 most: command.map_or(0, |command| command.most_bytes()),
             }),
-            Status::NoMemory => Some(Fault::NoMemory),
+            Status::NoMemory(_) => Some(Fault::NoMemory),
         }
     }
 }

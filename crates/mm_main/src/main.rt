@@ -1,20 +1,21 @@
-//! The program: it opens the files that its words name, makes the top call, and ends with its status.
+//! Floor: program. It promises the exit status that the top call gives, and one line on standard error where that is not 0. It
+//! never judges a script or a volume itself.
 #![tactic(auto)]
 
 mod fault;
+mod stopped;
 
 use fault::Fault;
 use mm_io::{FileSource, OutSink};
-use mm_run::{Command, Status, command_of, run};
-use std::alloc::Global;
+use mm_run::{command_of, run};
+use std::io;
 use std::process::ExitCode;
-use std::rt::Env;
-use std::{env, io};
+use stopped::{Stopped, words};
 
 fn main(rt: HostRuntime) -> ExitCode {
     let words = match words(&rt) {
         Ok(words) => words,
-        Err(status) => return ended(&rt, status, None, "", ""),
+        Err(stopped) => return ended(&rt, Some(stopped.fault()), stopped.number()),
     };
     let command = command_of(words.as_slice());
     let first_name = word(&words, 1);
@@ -23,24 +24,8 @@ fn main(rt: HostRuntime) -> ExitCode {
     let mut second = FileSource::open(&rt, second_name);
     let mut out = OutSink::new(io::writer(&rt));
     let end = run(rt.alloc(), &words, &mut first, &mut second, &mut out);
-    ended(&rt, end.status, command, first_name, second_name)
-}
-
-/// The words of the command line, without the program's own name. One that is no text is a faulty command line.
-fn words<R: Env + Alloc<A = Global>>(rt: &R) -> Result<Vec<String>, Status> {
-    let all = match env::args(rt) {
-        Ok(all) => all,
-        Err(error) if error.kind() == io::ErrorKind::OutOfMemory => return Err(Status::NoMemory),
-        Err(_) => return Err(Status::Usage),
-    };
-    let mut words = Vec::new(rt.alloc());
-    for word in all.skip(1) {
-        match words.push(word) {
-            Ok(()) => (),
-            Err(_) => return Err(Status::NoMemory),
-        }
-    }
-    Ok(words)
+    let fault = Fault::of(end.status, command, first_name, second_name);
+    ended(&rt, fault, end.status.number())
 }
 
 /// A word of the command line; empty, which names no file, where there is none.
@@ -52,15 +37,9 @@ fn word(words: &Vec<String>, place: usize) -> &str {
 }
 
 /// Says what went wrong, if anything did, and gives the exit status.
-fn ended<R: Eprint>(
-    rt: &R,
-    status: Status,
-    command: Option<Command>,
-    first: &str,
-    second: &str,
-) -> ExitCode {
-    if let Some(fault) = Fault::of(status, command, first, second) {
+fn ended<R: Eprint>(rt: &R, fault: Option<Fault>, number: u8) -> ExitCode {
+    if let Some(fault) = fault {
         let _ = eprintln!(rt; "mm_main: {fault}");
     }
-    ExitCode::from(status.number())
+    ExitCode::from(number)
 }

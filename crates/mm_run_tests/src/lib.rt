@@ -1,5 +1,5 @@
-//! Tests of the top call and of what it is made of, through their public calls. They stand apart, so that proving them
-//! doesn't prove those crates again.
+//! Floor: program. It promises nothing but that its tests of the top call and of what that is made of pass, through their public
+//! calls; they stand apart, so that proving them doesn't prove those crates again. It never has a function of its own.
 #![tactic(auto)]
 
 #[cfg(test)]

@@ -2,14 +2,14 @@
 use mm_base::{Bytes, List, NoMemory};
 use mm_io::{MemorySink, MemorySource};
 use mm_run::{Status, run};
-use std::alloc::{AllocError, Global};
+use std::alloc::Global;
 use std::process::Abort;
 
 /// How many bytes a sink of these tests takes.
 const ROOM: usize = 8_192;
 
 /// The words of a command line.
-pub fn words_of(alloc: Global, all: &[&str]) -> Result<Vec<String>, AllocError> {
+pub fn words_of(alloc: Global, all: &[&str]) -> Result<Vec<String>, NoMemory> {
     let mut words = Vec::new(alloc);
     for word in all {
         words.push(String::from_str(alloc, word)?)?;
@@ -18,7 +18,7 @@ pub fn words_of(alloc: Global, all: &[&str]) -> Result<Vec<String>, AllocError> 
 }
 
 /// The words `script` and a file's name.
-pub fn script_words(alloc: Global) -> Result<Vec<String>, AllocError> {
+pub fn script_words(alloc: Global) -> Result<Vec<String>, NoMemory> {
     words_of(alloc, &["script", "version.script"])
 }
 

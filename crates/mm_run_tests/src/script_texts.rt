@@ -1,7 +1,7 @@
 //! Texts that are read, and texts that are refused. What is expected was worked out by hand from the rules of the text.
 use comm_core::{Event, Script};
 use mm_base::{CellWrite, Guid, Handler, HandlerBody, Kind, NoMemory, Saved, TextKind};
-use mm_text::{TextEnd, read_script};
+use mm_text::{TextEnd, TextFault, read_script};
 use std::alloc::Global;
 use std::test::Fail;
 
@@ -263,9 +263,15 @@ const EVENTS: &[Event] = &[
     Event::Run { lane: 0 },
 ];
 
+/// The end of a text that is longer than any of these: no text has a line 0.
+const NEVER: TextEnd = TextEnd::Fault(TextFault {
+    line: 0,
+    kind: TextKind::Missing,
+});
+
 fn read(alloc: Global, bytes: &[u8], handlers: bool) -> Result<Script, TextEnd> {
     if bytes.len() > MOST_BYTES {
-        return Err(TextEnd::NoMemory);
+        return Err(NEVER);
     }
     read_script(alloc, bytes, handlers)
 }

@@ -1,14 +1,28 @@
 //! What is said of a status.
 use super::*;
-use std::alloc::{AllocError, Global};
+use crate::stopped::Stopped;
+use mm_base::NoMemory;
+use std::alloc::Global;
 use std::test::Fail;
 
 /// What is said of a status, where the words are this command, `one` and `two`; nothing where all went well.
-fn said(alloc: Global, command: Option<Command>, status: Status) -> Result<String, AllocError> {
+fn said(alloc: Global, command: Option<Command>, status: Status) -> Result<String, NoMemory> {
     match Fault::of(status, command, "one", "two") {
         None => Ok(String::new(alloc)),
-        Some(fault) => format!(in alloc; "{fault}"),
+        Some(fault) => Ok(format!(in alloc; "{fault}")?),
     }
+}
+
+/// What is said of a growth that is refused: no memory has so many bytes.
+fn said_of_refusal(alloc: Global) -> Result<String, NoMemory> {
+    match grown(alloc, usize::MAX) {
+        Ok(_) => Ok(String::new(alloc)),
+        Err(refused) => said(alloc, Some(Command::Check), Status::NoMemory(refused)),
+    }
+}
+
+fn grown(alloc: Global, count: usize) -> Result<Vec<u8>, NoMemory> {
+    Ok(Vec::with_capacity(alloc, count)?)
 }
 
 #[test]
@@ -54,10 +68,27 @@ fn names_what_was_refused(rt: HostRuntime) -> Result<(), Fail> {
             Status::WriteFault,
             "standard output could not be written",
         ),
-        (Some(Command::Check), Status::NoMemory, "memory was refused"),
     ];
     for (command, status, text) in expected {
         assert_eq!(rt; said(alloc, command, status)?.as_str(), text);
+    }
+    assert_eq!(rt; said_of_refusal(alloc)?.as_str(), "memory was refused");
+    Ok(())
+}
+
+#[test]
+fn names_what_stops_it_early(rt: HostRuntime) -> Result<(), Fail> {
+    let alloc = rt.alloc();
+    let expected = [
+        (
+            Stopped::NoText,
+            "usage: mm_main script FILE, or mm_main check FILE",
+        ),
+        (Stopped::NoMemory, "memory was refused"),
+    ];
+    for (stopped, text) in expected {
+        let fault = stopped.fault();
+        assert_eq!(rt; format!(in alloc; "{fault}")?.as_str(), text);
     }
     Ok(())
 }
