@@ -1,6 +1,6 @@
--- The spelling of each instruction, field by field: UEFI 2.10, chapter 22. Byte 0 has the opcode in bits 0 to 5, then b6
--- and b7. Byte 1 has operand 1 in bits 0 to 3 and operand 2 in bits 4 to 7, unless it is said otherwise. Bits that a row
--- doesn't name are 0, where the standard has an exception for some that are set and leaves others open.
+-- The spelling of each instruction, field by field: UEFI 2.10, chapter 22. Byte 0 has the opcode in bits 0 to 5, then
+-- b6 and b7. Byte 1 has operand 1 in bits 0 to 3 and operand 2 in bits 4 to 7, unless it is said otherwise. Bits that a
+-- row doesn't name are 0, where the standard has an exception for some that are set and leaves others open.
 use Rattle.std.specs.Prelude.{ℕ, ◌+◌, ◌*◌, Bool, true, false, List, [], ◌∷◌, ◌++◌, is_some}
 use Rattle.mm_base.specs.declared.operation.AluOp.{AluOp}
 use Rattle.mm_base.specs.declared.operation.AluOp.TheVariants as alu
@@ -64,8 +64,8 @@ break_number SystemCall = 4
 break_number Thunk = 5
 break_number CompilerVersion = 6
 
--- ---- JMP, JMP8, CALL, RET (22.8). In CALL bit 5 of byte 1 is the native call. Other than in the standard, a JMP or CALL
--- with an immediate of 64 bits names no register, and the C that an unconditional jump wants is 0.
+-- ---- JMP, JMP8, CALL, RET (22.8). In CALL bit 5 of byte 1 is the native call. Other than in the standard, a JMP or
+-- CALL with an immediate of 64 bits names no register, and the C that an unconditional jump wants is 0.
 
 -- whether a jump asks for C, and which C it wants
 abbrev pub is_conditional : Condition → Bool
@@ -160,8 +160,8 @@ abbrev pub with_operand : ℕ → Bool → Operand → List ℕ
 with_operand opcode six operand =
     head opcode six (is_some operand.field) (place_bits operand.place) 0 ++ field_bytes 2 operand.field
 
--- ---- MOVI, MOVIN, MOVREL (22.8): bit 6 of byte 1 is an index of 16 bits, and b7 b6 are 1, 2 or 3 for an immediate of 16,
--- 32 or 64 bits
+-- ---- MOVI, MOVIN, MOVREL (22.8): bit 6 of byte 1 is an index of 16 bits, and b7 b6 are 1, 2 or 3 for an immediate of
+-- 16, 32 or 64 bits
 
 abbrev pub immediate_six : FieldWidth → Bool
 immediate_six Bits16 = true

@@ -110,9 +110,9 @@ fn padded(bytes: &[u8]) -> [u8; MOST_BYTES]
     all
 }
 
-/// The instruction that the bytes begin with (UEFI 2.10, chapter 22, in this project's profile), and its length, 2 to 18:
-/// `EncodingFault` exactly where they begin with none, also where some of its bytes are missing. It takes a bounded number
-/// of steps, however many bytes there are, and no memory.
+/// The instruction that the bytes begin with (UEFI 2.10, chapter 22, in this project's profile), and its length, 2 to
+/// 18: `EncodingFault` exactly where they begin with none, also where some of its bytes are missing. It takes a
+/// bounded number of steps, however many bytes there are, and no memory.
 pub fn decode(bytes: &[u8]) -> Result<(Ins, u8), EncodingFault>
     ensures found { IfOk result (λ told. IsInstruction bytes.now told.0 told.1) }
     ensures only { TellsEach bytes.now result }

@@ -509,8 +509,9 @@ fn all_bytes(first: u8, second: u8, low: u64, high: u64) -> [u8; MOST_BYTES]
     ]
 }
 
-/// The bytes of an instruction (UEFI 2.10, chapter 22, in this project's profile) with zeros after them, and its length, 2
-/// to 18. The instruction must be lawful, as what `decode` answers is. It takes a bounded number of steps and no memory.
+/// The bytes of an instruction (UEFI 2.10, chapter 22, in this project's profile) with zeros after them, and its
+/// length, 2 to 18. The instruction must be lawful, as what `decode` answers is. It takes a bounded number of steps and
+/// no memory.
 pub fn encode(ins: &Ins) -> ([u8; MOST_BYTES], u8)
     requires { IsLawful ins.now }
     ensures bytes { result.0 ≡ spelling_of ins.now ++ replicate (18 - size_of ins.now) 0 }
