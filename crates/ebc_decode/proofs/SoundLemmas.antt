@@ -206,21 +206,33 @@ sound (opcodes.Move moved index) head f g listed is h one other =
     let some = ap (λ (b : Bool). bit b) (some-if head.seven f) in
     let also = ap (λ (b : Bool). bit b) (some-if head.six g) in
     record {
-      lawful = (listed, target_fits head.first head.seven index f is.first h one, operand_fits head.second head.six index g is.second other);
+      lawful = (
+        listed,
+        target_fits head.first head.seven index f is.first h one,
+        operand_fits head.second head.six index g is.second other,
+      );
       spelled = same (omega arith) (sym is.byte) (λ i. bytes-if head.seven index f i ++ bytes-if head.six index g i);
     }
 sound (opcodes.MoveSigned index) head f g listed is h one other =
     let some = ap (λ (b : Bool). bit b) (some-if head.seven f) in
     let also = ap (λ (b : Bool). bit b) (some-if head.six g) in
     record {
-      lawful = (listed, target_fits head.first head.seven index f is.first h one, operand_fits head.second head.six index g is.second other);
+      lawful = (
+        listed,
+        target_fits head.first head.seven index f is.first h one,
+        operand_fits head.second head.six index g is.second other,
+      );
       spelled = same (omega arith) (sym is.byte) (λ i. bytes-if head.seven index f i ++ bytes-if head.six index g i);
     }
 sound (opcodes.MoveNatural index) head f g listed is h one other =
     let some = ap (λ (b : Bool). bit b) (some-if head.seven f) in
     let also = ap (λ (b : Bool). bit b) (some-if head.six g) in
     record {
-      lawful = (listed, target_fits head.first head.seven index f is.first h one, operand_fits head.second head.six index g is.second other);
+      lawful = (
+        listed,
+        target_fits head.first head.seven index f is.first h one,
+        operand_fits head.second head.six index g is.second other,
+      );
       spelled = same (omega arith) (sym is.byte) (λ i. bytes-if head.seven index f i ++ bytes-if head.six index g i);
     }
 sound opcodes.LoadFlags head f g listed is h one other =

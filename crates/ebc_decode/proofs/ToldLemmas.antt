@@ -58,16 +58,6 @@ words_none_at n number head fault told at only instruction lawful begins =
     let none = only_there x.opcode x.begins in
     cc
 
-pub words_short_at : (n number : ℕ) (head : Head) (opcode : Opcode) (layout : Layout) (size : ℕ) (fault : EncodingFault)
-    → head ≡ head_of number
-    → BeginsOnly head (Ok (opcode, layout))
-    → size ≡ layout_length layout
-    → n < size
-    → TellsEach (little n number) (Err fault)
-words_short_at n number head opcode layout size fault at only e short =
-    words_short n number opcode layout fault (subst (λ (k : ℕ). n < k) e short)
-    (subst (λ (h : Head). BeginsOnly h (Ok (opcode, layout))) at only)
-
 -- what was built of the fields that were read
 pub record Built (number : ℕ) (head : Head) (opcode : Opcode) (layout : Layout) (one other : ℕ) (ins : Ins) : Type 0 where
   pub at : head ≡ head_of number
@@ -76,41 +66,52 @@ pub record Built (number : ℕ) (head : Head) (opcode : Opcode) (layout : Layout
   pub second : other ≡ tail_of number / 256 ^ bytes_if layout.first % 256 ^ bytes_if layout.second
   pub built_is : ins ≡ built opcode head one other
 
-built_made : (number : ℕ) (head : Head) (opcode : Opcode) (layout : Layout) (one other : ℕ) (ins : Ins)
-    → Built number head opcode layout one other ins
-    → ins ≡ made_of opcode (head_of number) (tail_of number)
-built_made number head opcode layout one other ins b =
-    let made = b.built_is ∙ (λ i. built opcode head (b.first i) (b.second i)) in
-    made
-    ∙ ap
-    (λ (l : Layout). built opcode head (tail_of number % 256 ^ bytes_if l.first)
-    (tail_of number / 256 ^ bytes_if l.first % 256 ^ bytes_if l.second))
-    b.fields
-    ∙ ap (λ (h : Head). made_of opcode h (tail_of number)) b.at
+module _ (n number : ℕ) (head : Head) (opcode : Opcode) (layout : Layout) where
+  pub words_short_at : (size : ℕ) (fault : EncodingFault)
+      → head ≡ head_of number
+      → BeginsOnly head (Ok (opcode, layout))
+      → size ≡ layout_length layout
+      → n < size
+      → TellsEach (little n number) (Err fault)
+  words_short_at size fault at only e short =
+      words_short n number opcode layout fault (subst (λ (k : ℕ). n < k) e short)
+      (subst (λ (h : Head). BeginsOnly h (Ok (opcode, layout))) at only)
 
-pub words_told_at : (n number : ℕ) (head : Head) (opcode : Opcode) (layout : Layout) (one other size : ℕ) (ins : Ins)
-    → Built number head opcode layout one other ins
-    → BeginsOnly head (Ok (opcode, layout))
-    → size ≡ layout_length layout
-    → TellsEach (little n number) (Ok (ins, size))
-words_told_at n number head opcode layout one other size ins b only e =
-    let only_there = subst (λ (h : Head). BeginsOnly h (Ok (opcode, layout))) b.at only in
-    let told = words_told n number opcode layout only_there in
-    let same = built_made number head opcode layout one other ins b in
-    let P : Ins → ℕ → Type 0 = λ i k. TellsEach (little n number) (Ok (i, k)) in
-    subst (P ins) (sym e) (subst (λ (i : Ins). P i (layout_length layout)) (sym same) told)
+  built_made : (one other : ℕ) (ins : Ins)
+      → Built number head opcode layout one other ins
+      → ins ≡ made_of opcode (head_of number) (tail_of number)
+  built_made one other ins b =
+      let made = b.built_is ∙ (λ i. built opcode head (b.first i) (b.second i)) in
+      made
+      ∙ ap
+      (λ (l : Layout). built opcode head (tail_of number % 256 ^ bytes_if l.first)
+      (tail_of number / 256 ^ bytes_if l.first % 256 ^ bytes_if l.second))
+      b.fields
+      ∙ ap (λ (h : Head). made_of opcode h (tail_of number)) b.at
 
-pub words_found_at : (n number : ℕ) (head : Head) (opcode : Opcode) (layout : Layout) (one other size : ℕ) (ins : Ins)
-    → Built number head opcode layout one other ins
-    → Begins head opcode
-    → size ≡ layout_length layout
-    → size ≤ n
-    → IsInstruction (little n number) ins size
-words_found_at n number head opcode layout one other size ins b begins e within =
-    let begins_there = subst (λ (h : Head). Begins h opcode) b.at begins in
-    let fields : layout ≡ widths opcode (head_of number) = b.fields ∙ ap (λ (h : Head). widths opcode h) b.at in
-    let whole : size ≡ layout_length (widths opcode (head_of number)) = e ∙ ap (λ (l : Layout). layout_length l) fields in
-    let same = built_made number head opcode layout one other ins b in
-    let found = words_found n number opcode begins_there (subst (λ (k : ℕ). k ≤ n) whole within) in
-    let P : Ins → ℕ → Type 0 = λ i k. IsInstruction (little n number) i k in
-    subst (P ins) (sym whole) (subst (λ (i : Ins). P i (layout_length (widths opcode (head_of number)))) (sym same) found)
+  pub words_told_at : (one other size : ℕ) (ins : Ins)
+      → Built number head opcode layout one other ins
+      → BeginsOnly head (Ok (opcode, layout))
+      → size ≡ layout_length layout
+      → TellsEach (little n number) (Ok (ins, size))
+  words_told_at one other size ins b only e =
+      let only_there = subst (λ (h : Head). BeginsOnly h (Ok (opcode, layout))) b.at only in
+      let told = words_told n number opcode layout only_there in
+      let same = built_made one other ins b in
+      let P : Ins → ℕ → Type 0 = λ i k. TellsEach (little n number) (Ok (i, k)) in
+      subst (P ins) (sym e) (subst (λ (i : Ins). P i (layout_length layout)) (sym same) told)
+
+  pub words_found_at : (one other size : ℕ) (ins : Ins)
+      → Built number head opcode layout one other ins
+      → Begins head opcode
+      → size ≡ layout_length layout
+      → size ≤ n
+      → IsInstruction (little n number) ins size
+  words_found_at one other size ins b begins e within =
+      let begins_there = subst (λ (h : Head). Begins h opcode) b.at begins in
+      let fields : layout ≡ widths opcode (head_of number) = b.fields ∙ ap (λ (h : Head). widths opcode h) b.at in
+      let whole : size ≡ layout_length (widths opcode (head_of number)) = e ∙ ap (λ (l : Layout). layout_length l) fields in
+      let same = built_made one other ins b in
+      let found = words_found n number opcode begins_there (subst (λ (k : ℕ). k ≤ n) whole within) in
+      let P : Ins → ℕ → Type 0 = λ i k. IsInstruction (little n number) i k in
+      subst (P ins) (sym whole) (subst (λ (i : Ins). P i (layout_length (widths opcode (head_of number)))) (sym same) found)

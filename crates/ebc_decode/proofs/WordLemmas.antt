@@ -90,7 +90,8 @@ pub length_told : (first second : ℕ) (opcode : Opcode) (layout : Layout)
     → TellsEachLength first second (Ok (layout_length layout))
 length_told first second opcode layout only instruction lawful begins =
     let o = owned instruction first second begins.rest lawful begins.are in
-    let same = told_parts (opcode, layout) (o.opcode, widths o.opcode (head_in first second)) (Ok (opcode, layout)) refl (only o.opcode o.begins) in
+    let same = told_parts (opcode, layout) (o.opcode, widths o.opcode (head_in first second)) (Ok (opcode, layout))
+    refl (only o.opcode o.begins) in
     ap (λ (l : Layout). Ok (layout_length l)) same.1 ∙ ap (λ (n : ℕ). Ok n) (sym o.size)
 
 pub length_none : (first second : ℕ) (fault other : EncodingFault)
@@ -204,7 +205,8 @@ pub words_told : (n number : ℕ) (opcode : Opcode) (layout : Layout)
     → TellsEach (little n number) (Ok (made_of opcode (head_of number) (tail_of number), layout_length layout))
 words_told n number opcode layout only instruction lawful begins =
     let x = held n number instruction lawful begins in
-    let same = told_parts (opcode, layout) (x.opcode, widths x.opcode (head_of number)) (Ok (opcode, layout)) refl (only x.opcode x.begins) in
+    let same = told_parts (opcode, layout) (x.opcode, widths x.opcode (head_of number)) (Ok (opcode, layout))
+    refl (only x.opcode x.begins) in
     let made : made_of opcode (head_of number) (tail_of number) ≡ instruction =
     ap (λ (o : Opcode). made_of o (head_of number) (tail_of number)) same.0 ∙ x.made in
     let size : layout_length layout ≡ size_of instruction = ap (λ (l : Layout). layout_length l) same.1 ∙ sym x.size in
@@ -224,7 +226,8 @@ pub words_short : (n number : ℕ) (opcode : Opcode) (layout : Layout) (fault : 
     → TellsEach (little n number) (Err fault)
 words_short n number opcode layout fault short only instruction lawful begins =
     let x = held n number instruction lawful begins in
-    let same = told_parts (opcode, layout) (x.opcode, widths x.opcode (head_of number)) (Ok (opcode, layout)) refl (only x.opcode x.begins) in
+    let same = told_parts (opcode, layout) (x.opcode, widths x.opcode (head_of number)) (Ok (opcode, layout))
+    refl (only x.opcode x.begins) in
     let size : layout_length layout ≡ size_of instruction = ap (λ (l : Layout). layout_length l) same.1 ∙ sym x.size in
     absurd (apart (layout_length layout) (size_of instruction) short size x.within)
   where

@@ -87,52 +87,53 @@ fields_length one other =
     let c = length-append (bytes_of_field one) (bytes_of_field other) in
     omega arith
 
--- two words whose number is that of two fields
-words_bytes : (one other : Option Field) (low high : ℕ)
-    → Fits one
-    → Fits other
-    → low < 2 ^ 64
-    → low + 2 ^ 64 * high ≡ joined_number one other
-    → little 8 low ++ little 8 high
-    ≡ (bytes_of_field one ++ bytes_of_field other) ++ replicate (16 - (field_size one + field_size other)) 0
-words_bytes one other low high fits also small e =
-    let m = field_size one in
-    let n = field_size other in
-    let f = field_number one in
-    let g = field_number other in
-    let a = field_size-le one in
-    let b = field_size-le other in
-    let left = 16 - (m + n) in
-    let whole : 16 ≡ m + (n + left) = omega arith in
-    sym (little-join 8 8 low high small)
-    ∙ ap (λ (k : ℕ). little 16 k) e
-    ∙ ap (λ (k : ℕ). little k (f + 256 ^ m * g)) whole
-    ∙ little-join m (n + left) f g (field_fits one fits)
-    ∙ ap (λ (l : List ℕ). little m f ++ l) (little-zeros n left g (field_fits other also))
-    ∙ sym (append_assoc (little m f) (little n g) (replicate left 0))
-    ∙ (λ i. (sym (field_bytes-is one) i ++ sym (field_bytes-is other) i) ++ replicate left 0)
+module _ (one other : Option Field) where
+  -- two words whose number is that of two fields
+  words_bytes : (low high : ℕ)
+      → Fits one
+      → Fits other
+      → low < 2 ^ 64
+      → low + 2 ^ 64 * high ≡ joined_number one other
+      → little 8 low ++ little 8 high
+      ≡ (bytes_of_field one ++ bytes_of_field other) ++ replicate (16 - (field_size one + field_size other)) 0
+  words_bytes low high fits also small e =
+      let m = field_size one in
+      let n = field_size other in
+      let f = field_number one in
+      let g = field_number other in
+      let a = field_size-le one in
+      let b = field_size-le other in
+      let left = 16 - (m + n) in
+      let whole : 16 ≡ m + (n + left) = omega arith in
+      sym (little-join 8 8 low high small)
+      ∙ ap (λ (k : ℕ). little 16 k) e
+      ∙ ap (λ (k : ℕ). little k (f + 256 ^ m * g)) whole
+      ∙ little-join m (n + left) f g (field_fits one fits)
+      ∙ ap (λ (l : List ℕ). little m f ++ l) (little-zeros n left g (field_fits other also))
+      ∙ sym (append_assoc (little m f) (little n g) (replicate left 0))
+      ∙ (λ i. (sym (field_bytes-is one) i ++ sym (field_bytes-is other) i) ++ replicate left 0)
 
--- the bytes that are written
-pub written : (first second low high : ℕ) (one other : Option Field) (spelling : List ℕ)
-    → Fits one
-    → Fits other
-    → low < 2 ^ 64
-    → low + 2 ^ 64 * high ≡ joined_number one other
-    → (first ∷ second ∷ (bytes_of_field one ++ bytes_of_field other)) ≡ spelling
-    → (first ∷ second ∷ (little 8 low ++ little 8 high)) ≡ spelling ++ replicate (18 - length spelling) 0
-written first second low high one other spelling fits also small e are =
-    let fields = bytes_of_field one ++ bytes_of_field other in
-    let many = fields_length one other in
-    let size = sym (ap (λ (l : List ℕ). length l) are) in
-    let left : 16 - (field_size one + field_size other) ≡ 18 - length spelling = omega arith in
-    (λ i. first ∷ second ∷ words_bytes one other low high fits also small e i)
-    ∙ ap (λ (k : ℕ). first ∷ second ∷ (fields ++ replicate k 0)) left
-    ∙ ap (λ (l : List ℕ). l ++ replicate (18 - length spelling) 0) are
+  -- the bytes that are written
+  pub written : (spelling : List ℕ) (first second low high : ℕ)
+      → Fits one
+      → Fits other
+      → low < 2 ^ 64
+      → low + 2 ^ 64 * high ≡ joined_number one other
+      → (first ∷ second ∷ (bytes_of_field one ++ bytes_of_field other)) ≡ spelling
+      → (first ∷ second ∷ (little 8 low ++ little 8 high)) ≡ spelling ++ replicate (18 - length spelling) 0
+  written spelling first second low high fits also small e are =
+      let fields = bytes_of_field one ++ bytes_of_field other in
+      let many = fields_length one other in
+      let size = sym (ap (λ (l : List ℕ). length l) are) in
+      let left : 16 - (field_size one + field_size other) ≡ 18 - length spelling = omega arith in
+      (λ i. first ∷ second ∷ words_bytes low high fits also small e i)
+      ∙ ap (λ (k : ℕ). first ∷ second ∷ (fields ++ replicate k 0)) left
+      ∙ ap (λ (l : List ℕ). l ++ replicate (18 - length spelling) 0) are
 
-pub written_length : (first second : ℕ) (one other : Option Field) (spelling : List ℕ)
-    → (first ∷ second ∷ (bytes_of_field one ++ bytes_of_field other)) ≡ spelling
-    → 2 + field_size one + field_size other ≡ length spelling
-written_length first second one other spelling are =
-    let many = fields_length one other in
-    let size = ap (λ (l : List ℕ). length l) are in
-    omega arith
+  pub written_length : (spelling : List ℕ) (first second : ℕ)
+      → (first ∷ second ∷ (bytes_of_field one ++ bytes_of_field other)) ≡ spelling
+      → 2 + field_size one + field_size other ≡ length spelling
+  written_length spelling first second are =
+      let many = fields_length one other in
+      let size = ap (λ (l : List ℕ). length l) are in
+      omega arith

@@ -61,9 +61,12 @@ IsLawful (ins.Call native relative target) = IsJumpTarget target
 IsLawful ins.Return = Unit {0}
 IsLawful (ins.Compare op wide first second) = IsRegister first × IsOperand 2 second
 IsLawful (ins.Compute op wide first second) = IsRegister first.register × IsOperand 2 second
-IsLawful (ins.Move moved index first second) = HasIndex moved index × IsTarget (bytes_in index) first × IsOperand (bytes_in index) second
-IsLawful (ins.MoveSigned index first second) = IsShort index × IsTarget (bytes_in index) first × IsOperand (bytes_in index) second
-IsLawful (ins.MoveNatural index first second) = IsShort index × IsTarget (bytes_in index) first × IsOperand (bytes_in index) second
+IsLawful (ins.Move moved index first second) =
+    HasIndex moved index × IsTarget (bytes_in index) first × IsOperand (bytes_in index) second
+IsLawful (ins.MoveSigned index first second) =
+    IsShort index × IsTarget (bytes_in index) first × IsOperand (bytes_in index) second
+IsLawful (ins.MoveNatural index first second) =
+    IsShort index × IsTarget (bytes_in index) first × IsOperand (bytes_in index) second
 IsLawful (ins.LoadFlags register) = IsRegister register
 IsLawful (ins.StoreSpecial register from) = IsRegister register
 IsLawful (ins.Stack op wide operand) = IsOperand 2 operand

@@ -1,8 +1,10 @@
 -- No public clause cites this file.
--- The first two bytes as fields, which of them begin an instruction, and what instruction they make of the fields that follow.
-use Rattle.std.specs.Prelude.{◌≡◌, ℕ, ◌+◌, ◌*◌, ◌/◌, ◌%◌, ◌^◌, Bool, true, not, ◌&&◌, ◌||◌, ◌==◌, nat_lt, nat_le, if◌then◌else◌, List, [], ◌∷◌, Option, Some, None, Result, Ok}
+-- The first two bytes as fields, which of them begin an instruction, and what they make of the fields that follow.
+use Rattle.std.specs.Prelude.{◌≡◌, ℕ, ◌+◌, ◌*◌, ◌/◌, ◌%◌, ◌^◌, Bool, true, not, ◌&&◌, ◌||◌, ◌==◌, nat_lt, nat_le}
+use Rattle.std.specs.Prelude.{if◌then◌else◌, List, [], ◌∷◌, Option, Some, None, Result, Ok}
 use Rattle.ebc_decode.specs.declared.choices.BreakCode.{BreakCode}
-use Rattle.ebc_decode.specs.declared.choices.BreakCode.TheVariants.{Runaway, Version, Breakpoint, SystemCall, Thunk, CompilerVersion}
+use Rattle.ebc_decode.specs.declared.choices.BreakCode.TheVariants.{Runaway, Version, Breakpoint, SystemCall, Thunk}
+use Rattle.ebc_decode.specs.declared.choices.BreakCode.TheVariants.{CompilerVersion}
 use Rattle.ebc_decode.specs.declared.choices.Condition.{Condition}
 use Rattle.ebc_decode.specs.declared.choices.Condition.TheVariants.{Always, CarryClear, CarrySet}
 use Rattle.ebc_decode.specs.declared.choices.Special.{Special}
@@ -125,11 +127,13 @@ is_break bits = not bits.indirect && (nat_lt bits.register 7 && not (bits.regist
 
 -- the high bits of byte 1 are one bit, an index of operand 1
 abbrev pub has_index_bit : Head → Bool
-has_index_bit head = (not head.second.indirect && nat_lt head.second.register 2) && may_index (head.second.register == 1) head.first
+has_index_bit head =
+    (not head.second.indirect && nat_lt head.second.register 2) && may_index (head.second.register == 1) head.first
 
 -- bit 7 of byte 1 is 0, bit 6 an index of operand 1, and b7 b6 is no 0
 abbrev pub has_immediate : Head → Bool
-has_immediate head = (not head.second.indirect && (head.six || head.seven)) && may_index (nat_le 4 head.second.register) head.first
+has_immediate head =
+    (not head.second.indirect && (head.six || head.seven)) && may_index (nat_le 4 head.second.register) head.first
 
 abbrev pub accepts : Opcode → Head → Bool
 accepts opcodes.Break head = (is_bare head && is_break head.first) && has_no_bits head.second
@@ -143,7 +147,8 @@ accepts (opcodes.Move moved index) head = may_index head.seven head.first
 accepts (opcodes.MoveSigned index) head = may_index head.seven head.first
 accepts (opcodes.MoveNatural index) head = may_index head.seven head.first
 accepts opcodes.LoadFlags head = (is_bare head && has_no_bits head.first) && not head.second.indirect
-accepts opcodes.StoreSpecial head = (is_bare head && not head.first.indirect) && (not head.second.indirect && nat_lt head.second.register 2)
+accepts opcodes.StoreSpecial head =
+    (is_bare head && not head.first.indirect) && (not head.second.indirect && nat_lt head.second.register 2)
 accepts (opcodes.Stack op) head = has_no_bits head.second
 accepts (opcodes.StackNatural op) head = not head.six && has_no_bits head.second
 accepts (opcodes.CompareImmediate op) head = has_index_bit head
@@ -227,7 +232,8 @@ abbrev pub operand_with : Place → Bool → ℕ → Operand
 operand_with place there raw = record { place = place; field = if there then Some raw else None }
 
 abbrev pub target_with : Head → ℕ → Target
-target_with head raw = if head.six then targets.Immediate raw else targets.Operand (operand_with head.first head.seven raw)
+target_with head raw =
+    if head.six then targets.Immediate raw else targets.Operand (operand_with head.first head.seven raw)
 
 -- an operand 1 with an index of 16 bits where bit 6 of byte 1 says so
 abbrev pub indexed : Head → ℕ → Operand
@@ -240,14 +246,16 @@ immediate_with head raw = record { width = immediate_width head; raw = raw }
 abbrev pub built : Opcode → Head → ℕ → ℕ → Ins
 built opcodes.Break head first second = ins.Break (break_with head.first.register)
 built opcodes.Jump head first second =
-    ins.Jump (condition_with head.second.indirect (nat_le 4 head.second.register)) (head.second.register % 2 == 1) (target_with head first)
+    ins.Jump (condition_with head.second.indirect (nat_le 4 head.second.register))
+    (head.second.register % 2 == 1) (target_with head first)
 built opcodes.ShortJump head first second = ins.ShortJump (condition_with head.seven head.six) head.byte
 built opcodes.Call head first second =
     ins.Call (nat_le 2 head.second.register) (head.second.register % 2 == 1) (target_with head first)
 built opcodes.Return head first second = ins.Return
 built (opcodes.Compare op) head first second =
     ins.Compare op head.six head.first.register (operand_with head.second head.seven first)
-built (opcodes.Compute op) head first second = ins.Compute op head.six head.first (operand_with head.second head.seven first)
+built (opcodes.Compute op) head first second =
+    ins.Compute op head.six head.first (operand_with head.second head.seven first)
 built (opcodes.Move moved index) head first second =
     ins.Move moved index (operand_with head.first head.seven first) (operand_with head.second head.six second)
 built (opcodes.MoveSigned index) head first second =

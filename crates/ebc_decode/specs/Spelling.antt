@@ -1,13 +1,14 @@
--- The spelling of each instruction, field by field: UEFI 2.10, chapter 22. Byte 0 has the opcode in bits 0 to 5, then b6 and b7.
--- Byte 1 has operand 1 in bits 0 to 3 and operand 2 in bits 4 to 7, unless it is said otherwise. Bits that a row doesn't name
--- are 0.
+-- The spelling of each instruction, field by field: UEFI 2.10, chapter 22. Byte 0 has the opcode in bits 0 to 5, then
+-- b6 and b7. Byte 1 has operand 1 in bits 0 to 3 and operand 2 in bits 4 to 7, unless it is said otherwise. Bits that a
+-- row doesn't name are 0, where the standard has an exception for some that are set and leaves others open.
 use Rattle.std.specs.Prelude.{ℕ, ◌+◌, ◌*◌, Bool, true, false, List, [], ◌∷◌, ◌++◌, is_some}
 use Rattle.mm_base.specs.declared.operation.AluOp.{AluOp}
 use Rattle.mm_base.specs.declared.operation.AluOp.TheVariants as alu
 use Rattle.mm_base.specs.declared.operation.CmpOp.{CmpOp}
 use Rattle.mm_base.specs.declared.operation.CmpOp.TheVariants as cmp
 use Rattle.ebc_decode.specs.declared.choices.BreakCode.{BreakCode}
-use Rattle.ebc_decode.specs.declared.choices.BreakCode.TheVariants.{Runaway, Version, Breakpoint, SystemCall, Thunk, CompilerVersion}
+use Rattle.ebc_decode.specs.declared.choices.BreakCode.TheVariants.{Runaway, Version, Breakpoint, SystemCall, Thunk}
+use Rattle.ebc_decode.specs.declared.choices.BreakCode.TheVariants.{CompilerVersion}
 use Rattle.ebc_decode.specs.declared.choices.Condition.{Condition}
 use Rattle.ebc_decode.specs.declared.choices.Condition.TheVariants.{Always, CarryClear, CarrySet}
 use Rattle.ebc_decode.specs.declared.choices.Special.{Special}
@@ -63,8 +64,8 @@ break_number SystemCall = 4
 break_number Thunk = 5
 break_number CompilerVersion = 6
 
--- ---- JMP, JMP8, CALL, RET (22.8). In CALL bit 5 of byte 1 is the native call; a JMP or CALL with an immediate of 64 bits names
--- no register. Where a jump is unconditional, the C that it wants is 0.
+-- ---- JMP, JMP8, CALL, RET (22.8). In CALL bit 5 of byte 1 is the native call. Other than in the standard, a JMP or
+-- CALL with an immediate of 64 bits names no register, and the C that an unconditional jump wants is 0.
 
 -- whether a jump asks for C, and which C it wants
 abbrev pub is_conditional : Condition → Bool
@@ -159,8 +160,8 @@ abbrev pub with_operand : ℕ → Bool → Operand → List ℕ
 with_operand opcode six operand =
     head opcode six (is_some operand.field) (place_bits operand.place) 0 ++ field_bytes 2 operand.field
 
--- ---- MOVI, MOVIN, MOVREL (22.8): bit 6 of byte 1 is an index of 16 bits, and b7 b6 are 1, 2 or 3 for an immediate of 16, 32 or
--- 64 bits
+-- ---- MOVI, MOVIN, MOVREL (22.8): bit 6 of byte 1 is an index of 16 bits, and b7 b6 are 1, 2 or 3 for an immediate of
+-- 16, 32 or 64 bits
 
 abbrev pub immediate_six : FieldWidth → Bool
 immediate_six Bits16 = true
@@ -191,7 +192,8 @@ unfoldable pub spelling_of : Ins → List ℕ
 spelling_of (ins.Break code) = head 0x00 false false (break_number code) 0
 spelling_of (ins.Jump when relative target) =
     with_target 0x01 target (bit relative + 4 * bit (wanted_carry when) + 8 * bit (is_conditional when))
-spelling_of (ins.ShortJump when distance) = (0x02 + 64 * bit (wanted_carry when) + 128 * bit (is_conditional when)) ∷ distance ∷ []
+spelling_of (ins.ShortJump when distance) =
+    (0x02 + 64 * bit (wanted_carry when) + 128 * bit (is_conditional when)) ∷ distance ∷ []
 spelling_of (ins.Call native relative target) = with_target 0x03 target (bit relative + 2 * bit native)
 spelling_of ins.Return = head 0x04 false false 0 0
 spelling_of (ins.Compare op wide first second) = with_second (0x05 + compare_number op) wide first second
@@ -205,7 +207,8 @@ spelling_of (ins.Stack op wide operand) = with_operand (0x2b + stack_number op) 
 spelling_of (ins.StackNatural op operand) = with_operand (0x35 + stack_number op) false operand
 -- bit 4 of byte 1 is an index of 16 bits, b7 an immediate of 32 bits in place of 16
 spelling_of (ins.CompareImmediate op wide first immediate) =
-    head (0x2d + compare_number op) wide (immediate_seven immediate.width) (place_bits first.place) (bit (is_some first.field))
+    head (0x2d + compare_number op) wide (immediate_seven immediate.width) (place_bits first.place)
+    (bit (is_some first.field))
     ++ field_bytes 2 first.field
     ++ little (bytes_in immediate.width) immediate.raw
 spelling_of (ins.MoveImmediate moved first immediate) = with_immediate 0x37 first (width_number moved) immediate

@@ -3,8 +3,8 @@ use crate::choices::{BreakCode, Condition, Special, StackOp};
 use crate::operand::{Field, FieldWidth, Operand, Place, Target, Width};
 use mm_base::{AluOp, CmpOp};
 
-/// An instruction of EFI Byte Code, a variant for each row of its table of opcodes. `wide` is whether it works on 64 bits, else
-/// it works on 32.
+/// An instruction of EFI Byte Code (UEFI 2.10, 22.8), a variant for each row of its table of opcodes. `wide` is whether
+/// it works on 64 bits, else it works on 32.
 #[derive(Clone, Copy, Debug, PartialEq, Eq)]
 pub enum Ins {
     /// 00 BREAK.

@@ -1,8 +1,10 @@
 //! Which first two bytes begin an instruction, and which fields follow them.
 ghost use Rattle.std.specs.Prelude.{◌≡◌};
-ghost use Rattle.ebc_decode.specs.ReadingInside.{has_no_bits, is_bare, may_index, names_target, has_jump_bits, is_break};
+ghost use Rattle.ebc_decode.specs.ReadingInside.{has_no_bits, is_bare, may_index, names_target, has_jump_bits};
+ghost use Rattle.ebc_decode.specs.ReadingInside.{is_break};
 ghost use Rattle.ebc_decode.specs.ReadingInside.{has_index_bit, has_immediate, accepts};
-ghost use Rattle.ebc_decode.specs.ReadingInside.{width_if, target_width, immediate_width, compared_width, widths, bytes_if, layout_length};
+ghost use Rattle.ebc_decode.specs.ReadingInside.{width_if, target_width, immediate_width, compared_width, widths};
+ghost use Rattle.ebc_decode.specs.ReadingInside.{bytes_if, layout_length};
 
 use crate::head::{BIT_5, BIT_6, Head};
 use crate::opcode::Opcode;

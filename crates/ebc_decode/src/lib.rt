@@ -1,6 +1,6 @@
 //! Needs `mm_base` alone.
-//! EFI Byte Code as it is spelled: `decode` takes exactly the bytes that begin with an instruction's one spelling, and `encode`
-//! gives that spelling.
+//! EFI Byte Code as it is spelled: `decode` takes exactly the bytes that begin with an instruction's one spelling, and
+//! `encode` gives that spelling.
 //! It never touches registers, memory or a bus, and takes no memory.
 #![tactic(auto)]
 

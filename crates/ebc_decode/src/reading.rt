@@ -35,8 +35,8 @@ fn begin(head: Head) -> Result<(Opcode, Layout), EncodingFault>
     }
 }
 
-/// How many bytes the instruction has that two bytes begin, 2 to 18: `EncodingFault` exactly where they begin none. It takes a
-/// bounded number of steps.
+/// How many bytes the instruction has that two bytes begin, 2 to 18: `EncodingFault` exactly where they begin none. It
+/// takes a bounded number of steps and no memory.
 #[inline(always)]
 pub fn length(first: u8, second: u8) -> Result<u8, EncodingFault>
     ensures found { IfOk result (λ n. BeginsInstruction first second n) }
@@ -86,8 +86,8 @@ fn word_at(bytes: &[u8; MOST_BYTES], at: usize) -> u64
     ])
 }
 
-/// The instruction that the first n of these bytes begin with, and its length: `EncodingFault` exactly where they begin with
-/// none. It takes a bounded number of steps, and is made for bytes that were fetched.
+/// The instruction that the first n of these bytes begin with, and its length: `EncodingFault` exactly where they begin
+/// with none. It takes a bounded number of steps and no memory, and no step for each byte.
 #[inline(always)]
 pub fn decode_fetched(bytes: &[u8; MOST_BYTES], n: u8) -> Result<(Ins, u8), EncodingFault>
     requires { n ≤ 18 }
@@ -110,8 +110,9 @@ fn padded(bytes: &[u8]) -> [u8; MOST_BYTES]
     all
 }
 
-/// The instruction that the bytes begin with, and its length: `EncodingFault` exactly where they begin with none, also where
-/// some of its bytes are missing. It takes a bounded number of steps, however many bytes there are, and no memory.
+/// The instruction that the bytes begin with (UEFI 2.10, chapter 22, in this project's profile), and its length, 2 to
+/// 18: `EncodingFault` exactly where they begin with none, also where some of its bytes are missing. It takes a
+/// bounded number of steps, however many bytes there are, and no memory.
 pub fn decode(bytes: &[u8]) -> Result<(Ins, u8), EncodingFault>
     ensures found { IfOk result (λ told. IsInstruction bytes.now told.0 told.1) }
     ensures only { TellsEach bytes.now result }

@@ -61,7 +61,7 @@ fn first_accepted(cases: &[(&[u8], &str)]) -> usize {
     cases.len()
 }
 
-/// Whether `length` and `decode` agree on two bytes: with zeros after them, and with those that the length asks for alone.
+/// Whether `length` and `decode` agree on two bytes: with zeros after them, and with no more than the length asks for.
 fn is_agreed(first: u8, second: u8) -> bool {
     let mut bytes = [0; 18];
     bytes[0] = first;

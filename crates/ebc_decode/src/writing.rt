@@ -4,11 +4,14 @@ ghost use Rattle.ebc_decode.specs.Bytes.{little};
 ghost use Rattle.ebc_decode.specs.Spelling.{bit, place_bits, compare_number, compute_opcode, width_number, move_opcode};
 ghost use Rattle.ebc_decode.specs.Spelling.{index_number, stack_number, special_number, break_number, immediate_six};
 ghost use Rattle.ebc_decode.specs.Spelling.{immediate_seven, is_conditional, wanted_carry, spelling_of};
-ghost use Rattle.ebc_decode.specs.Spelling.{bytes_in, head, with_target, with_second, with_indexes, with_operand, with_immediate};
+ghost use Rattle.ebc_decode.specs.Spelling.{bytes_in, head, with_target, with_second, with_indexes, with_operand};
+ghost use Rattle.ebc_decode.specs.Spelling.{with_immediate};
 ghost use Rattle.ebc_decode.specs.declared.ins.Ins.TheVariants.{ShortJump, CompareImmediate};
-ghost use Rattle.ebc_decode.specs.Lawful.{IsLawful, IsRegister, IsOperand, IsTarget, IsField, IsJumpTarget, FitsIn, HasIndex};
+ghost use Rattle.ebc_decode.specs.Lawful.{IsLawful, IsRegister, IsOperand, IsTarget, IsField, IsJumpTarget, FitsIn};
+ghost use Rattle.ebc_decode.specs.Lawful.{HasIndex};
 ghost use Rattle.ebc_decode.specs.Reading.{size_of};
-ghost use Rattle.ebc_decode.specs.WritingInside.{bytes_of_field, Fits, bytes_of_parts, AllFit, field_size, joined_number, field_if};
+ghost use Rattle.ebc_decode.specs.WritingInside.{bytes_of_field, Fits, bytes_of_parts, AllFit, field_size};
+ghost use Rattle.ebc_decode.specs.WritingInside.{joined_number, field_if};
 
 use crate::choices::{BreakCode, Condition, Special, StackOp};
 use crate::head::{BIT_5, BIT_6, HIGH, REGISTERS, SEVEN, SIX};
@@ -506,8 +509,9 @@ fn all_bytes(first: u8, second: u8, low: u64, high: u64) -> [u8; MOST_BYTES]
     ]
 }
 
-/// The bytes of an instruction, with zeros after them, and its length, 2 to 18. It takes a bounded number of steps and no memory.
-/// The instruction must be lawful, as what `decode` answers is.
+/// The bytes of an instruction (UEFI 2.10, chapter 22, in this project's profile) with zeros after them, and its
+/// length, 2 to 18. The instruction must be lawful, as what `decode` answers is. It takes a bounded number of steps and
+/// no memory.
 pub fn encode(ins: &Ins) -> ([u8; MOST_BYTES], u8)
     requires { IsLawful ins.now }
     ensures bytes { result.0 ≡ spelling_of ins.now ++ replicate (18 - size_of ins.now) 0 }
