@@ -1,7 +1,5 @@
-//! Needs `mm_base` alone.
-//! EFI Byte Code as it is spelled: `decode` takes exactly the bytes that begin with an instruction's one spelling, and
-//! `encode` gives that spelling.
-//! It never touches registers, memory or a bus, and takes no memory.
+//! Floor: byte code. It promises that EFI Byte Code has one spelling an instruction: `decode` takes exactly the bytes that begin with it,
+//! and `encode` gives it. It never touches registers, memory or a bus, and takes no memory.
 #![tactic(auto)]
 
 mod choices;
