@@ -1,0 +1,4 @@
+pub mod HomeRanges
+pub mod ImageTable
+pub mod Laws
+pub mod Sections
