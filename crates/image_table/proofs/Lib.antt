@@ -1,1 +1,4 @@
+pub mod HomeLemmas
+pub mod LawLemmas
 pub mod SectionLemmas
+pub mod TableLemmas

@@ -33,13 +33,13 @@ impl PlacedImage {
         }
         let place = k as usize - 1;
         let sections = self.sections.as_slice();
-        match sections.get(place) {
-            Some(part) => Some(section_range(self.region.base, part)),
-            None => page_ranges(&self.region)
-                .as_slice()
-                .get(place - sections.len())
-                .copied(),
+        if place < sections.len() {
+            return Some(section_range(self.region.base, &sections[place]));
         }
+        page_ranges(&self.region)
+            .as_slice()
+            .get(place - sections.len())
+            .copied()
     }
 
     /// Whether one of its home ranges that has this right covers a range. It costs a number of steps in the logarithm of its
@@ -50,9 +50,7 @@ impl PlacedImage {
     {
         covers_with(&self.header_range(), range, right)
             || self.sections_own(range, right)
-            || page_ranges(&self.region)
-                .iter()
-                .any(|home| covers_with(home, range, right))
+            || self.pages_own(range, right)
     }
 
     /// The bytes of its headers, which may be read.
@@ -64,6 +62,16 @@ impl PlacedImage {
             length: self.headers as u64,
         };
         (range, READ)
+    }
+
+    /// Whether one of the home ranges past its own pages that has this right covers a range.
+    fn pages_own(&self, range: &Range, right: Right) -> bool
+        requires { IsAddressable self.now.region }
+        ensures { result ≡ list_any (grants right range.now) (page_homes self.now.region) }
+    {
+        page_ranges(&self.region)
+            .iter()
+            .any(|home| covers_with(home, range, right))
     }
 
     /// Whether one of its sections that has this right covers a range. Only the last two that begin where the range does or
