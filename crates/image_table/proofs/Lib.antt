@@ -2,3 +2,4 @@ pub mod HomeLemmas
 pub mod LawLemmas
 pub mod SectionLemmas
 pub mod TableLemmas
+pub mod TestLemmas
