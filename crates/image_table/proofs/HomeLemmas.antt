@@ -1,5 +1,5 @@
 -- Home ranges by their places, and which of them can cover a range.
-use Rattle.std.proofs.Common.{◌≡◌, ℕ, zero, suc, ◌+◌, ◌-◌, ◌*◌, ◌<◌, ◌≤◌, ◌⊎◌, ◌^◌, Bool, true, false, List, [], ◌∷◌, ◌++◌, length, get_or, map, take, drop}
+use Rattle.std.proofs.Common.{◌≡◌, ℕ, zero, suc, ◌+◌, ◌-◌, ◌<◌, ◌≤◌, Bool, true, false, List, [], ◌∷◌, ◌++◌, length, get_or, map, take, drop}
 use Rattle.std.proofs.Common.{refl, sym, ap, ◌∙◌, subst, arith, Option, Some}
 use Rattle.std.specs.Prelude.{◌&&◌, ◌||◌, nat_le, slice_get, slice_range}
 use Rattle.std.specs.List.{All, AllPairs, list_any}
@@ -11,14 +11,12 @@ use Rattle.std.proofs.lemmas.List.{get_or-take, take-append-drop, get_or-drop, l
 use Rattle.std.proofs.lemmas.List.Folds.{drop_split, list_any-append, list_any_none}
 use Rattle.std.proofs.lemmas.List.Sorted.{IsNonDecreasingBy-from_all_adjacent}
 use Rattle.std.proofs.lemmas.Option.{slice_get-get_or, slice_get-map}
-use Rattle.mm_base.specs.Platform.{mmram}
 use Rattle.mm_base.specs.Range.{encloses}
-use Rattle.mm_base.specs.Regions.{region_of}
 use Rattle.mm_base.specs.Rights.{have_right}
 use Rattle.mm_base.specs.declared.access.Right.{Right}
 use Rattle.mm_base.specs.declared.image.Part.{Part}
 use Rattle.mm_base.specs.declared.range.Range.{Range}
-use Rattle.image_table.specs.HomeRanges.{Home, IsPlaced, grants, header_home, home_ranges, is_own, page_homes, section_home}
+use Rattle.image_table.specs.HomeRanges.{Home, grants, home_ranges, page_homes, section_home}
 use Rattle.image_table.specs.declared.placed_image.PlacedImage.{PlacedImage}
 use Rattle.image_table.proofs.SectionLemmas.{EndsBefore, HasBytes}
 
@@ -154,22 +152,22 @@ near_two : (right : Right) (range : Range) (base : ℕ) (parts : List Part) (cou
     → count ≤ length parts
     → IsPartitionPoint (λ part. nat_le part.at (range.base - base) ≡ true) (λ part. nat_le part.at (range.base - base) ≡ false) parts count
     → list_any (λ part. grants right range (section_home base part)) (slice_range parts (count - 2) count)
-      ≡ list_any (grants right range) (map (section_home base) parts)
+    ≡ list_any (grants right range) (map (section_home base) parts)
 near_two right range base parts count rising some low all point =
     let test : Part → Bool = λ part. grants right range (section_home base part) in
     let Fails : Part → Type 0 = λ part. test part ≡ false in
     let front : list_any test (take (count - 2) parts) ≡ false =
     list_any_none test (take (count - 2) parts)
     (λ k d within.
-        let far : k < count - 2 = omega (arith, length-take (count - 2) parts) in
-        subst Fails (sym (get_or-take (count - 2) parts k d far))
-        (far_before right range base parts count rising some low all point.0 k d far)) in
+    let far : k < count - 2 = omega (arith, length-take (count - 2) parts) in
+    subst Fails (sym (get_or-take (count - 2) parts k d far))
+    (far_before right range base parts count rising some low all point.0 k d far)) in
     let back : list_any test (drop count parts) ≡ false =
     list_any_none test (drop count parts)
     (λ k d within.
-        let past : count + k < length parts = omega (arith, length-drop count parts) in
-        subst Fails (sym (get_or-drop count parts k d))
-        (begins_after right range base (get_or parts (count + k) d) low (above _ _ (point.1 (count + k) d (omega arith) past)))) in
+    let past : count + k < length parts = omega (arith, length-drop count parts) in
+    subst Fails (sym (get_or-drop count parts k d))
+    (begins_after right range base (get_or parts (count + k) d) low (above _ _ (point.1 (count + k) d (omega arith) past)))) in
     let split : parts ≡ take (count - 2) parts ++ (slice_range parts (count - 2) count ++ drop count parts) =
     sym (take-append-drop (count - 2) parts)
     ∙ ap (λ rest. take (count - 2) parts ++ rest) (drop_split parts (count - 2) count (omega arith)) in

@@ -1,22 +1,20 @@
 -- The laws of home ranges.
-use Rattle.std.proofs.Common.{◌≡◌, ℕ, suc, ◌+◌, ◌*◌, ◌<◌, ◌≤◌, Bool, true, false, List, [], ◌∷◌, ◌++◌, length, map, get_or, arith}
+use Rattle.std.proofs.Common.{◌≡◌, ℕ, suc, ◌+◌, ◌*◌, ◌<◌, ◌≤◌, Bool, true, false, List, [], ◌∷◌, ◌++◌, map, get_or, arith}
 use Rattle.std.specs.Prelude.{◌&&◌}
-use Rattle.std.specs.List.{All, AllPairs, Any, list_any}
+use Rattle.std.specs.List.{All, AllPairs, list_any}
 use Rattle.std.proofs.lemmas.Bool.Decides.{nat_tests}
 use Rattle.std.proofs.lemmas.List.Elements.{All-append, All-cons, All-from_recursion, All-head, All-map, All-nil, All-tail}
 use Rattle.std.proofs.lemmas.List.Folds.{Any-from_list_any, list_any-from_Any}
 use Rattle.std.proofs.lemmas.List.Kept.{AllPairs-cons}
-use Rattle.mm_base.specs.Range.{Has, encloses, share_a_unit}
+use Rattle.mm_base.specs.Range.{encloses, share_a_unit}
 use Rattle.mm_base.specs.Regions.{region_of, stack_of, communicate_page_of, service_page_of, pool_of, reserve_of}
 use Rattle.mm_base.specs.Rights.{have_right}
-use Rattle.mm_base.specs.declared.access.Right.{Right}
 use Rattle.mm_base.specs.declared.image.Part.{Part}
 use Rattle.mm_base.specs.declared.range.Range.{Range}
 use Rattle.mm_base.specs.declared.region.Region.{Region}
-use Rattle.image_table.specs.HomeRanges.{Home, IsPlaced, grants, header_home, home_ranges, page_homes, section_home}
+use Rattle.image_table.specs.HomeRanges.{Home, grants, header_home, home_ranges, page_homes, section_home}
 use Rattle.image_table.specs.Laws.{LieInTheirRegion, Rise, LieApart, OfImagesApart, HoldWhatLiesWithin, HoldEachByte}
 use Rattle.image_table.specs.declared.placed_image.PlacedImage.{PlacedImage}
-use Rattle.image_table.proofs.SectionLemmas.{EndsBefore}
 
 -- each of a list of pages
 
@@ -122,15 +120,15 @@ rise image is =
     (AllPairs-append Before homes (page_homes image.region)
     (AllPairs-map Before (section_home base) image.sections
     (λ i j d less within.
-        let ends : (get_or image.sections i d).at + (get_or image.sections i d).length ≤ (get_or image.sections j d).at =
-        is.rising i j d less within in
-        omega arith))
+    let ends : (get_or image.sections i d).at + (get_or image.sections i d).length ≤ (get_or image.sections j d).at =
+    is.rising i j d less within in
+    omega arith))
     (pages_rise image.region)
     (All-map (λ home. All (Before home) (page_homes image.region)) (section_home base) image.sections
     (λ k d within.
-        let high : (get_or image.sections k d).at + (get_or image.sections k d).length ≤ 4096 * image.region.pages =
-        (is.between k d within).1 in
-        before_pages image (section_home base (get_or image.sections k d)) (omega arith))))
+    let high : (get_or image.sections k d).at + (get_or image.sections k d).length ≤ 4096 * image.region.pages =
+    (is.between k d within).1 in
+    before_pages image (section_home base (get_or image.sections k d)) (omega arith))))
 
 -- so they lie apart
 
@@ -152,9 +150,9 @@ apart_within one other a b first second apart in_one in_other = grind (arith, na
 pub of_images_apart : OfImagesApart
 of_images_apart one other is_one is_other apart =
     λ k d within j e there.
-        apart_within (region_of one.region) (region_of other.region) _ _ (omega arith) (omega arith) apart
-        (lie_in_their_region one is_one k d within)
-        (lie_in_their_region other is_other j e there)
+    apart_within (region_of one.region) (region_of other.region) _ _ (omega arith) (omega arith) apart
+    (lie_in_their_region one is_one k d within)
+    (lie_in_their_region other is_other j e there)
 
 -- parts of what is home
 

@@ -5,13 +5,14 @@ use Rattle.std.specs.Prelude.{if◌then◌else◌, nat_le, nat_lt, ◌&&◌}
 use Rattle.std.specs.List.{All, AllPairs, Contains, filter, sum_by}
 use Rattle.std.specs.List.Sorted.{IsNonDecreasingBy, IsPermutation}
 use Rattle.std.proofs.lemmas.Bool.Decides.{nat_tests}
-use Rattle.std.proofs.lemmas.List.Elements.{All-nil, All-cons, All-head, All-tail, All-weaker, All-filter, All-contains, Contains-append_cases, filter_passes}
-use Rattle.std.proofs.lemmas.List.Elements.{Contains-append_left, Contains-append_right}
+use Rattle.std.proofs.lemmas.List.Elements.{All-nil, All-cons, All-head, All-tail, All-weaker, All-filter, All-contains, filter_passes}
+use Rattle.std.proofs.lemmas.List.Elements.{Contains-append_right}
 use Rattle.std.proofs.lemmas.List.Kept.{AllPairs-cons, AllPairs-filter}
 use Rattle.std.proofs.lemmas.List.Sorted.{All-permutation, Contains-permutation, IsPermutation-cons, IsPermutation-middle, IsPermutation-refl, IsPermutation-sym, IsPermutation-trans, sum_by-IsPermutation}
 use Rattle.std.proofs.lemmas.List.Sums.{get_or-le-sum_by, sum_by-le, sum_by_from}
 use Rattle.mm_base.specs.Range.{share_a_unit}
 use Rattle.mm_base.specs.declared.image.Part.{Part}
+use Rattle.image_table.specs.Laws.{SectionsRise}
 use Rattle.image_table.specs.Sections.{AreApart, has_bytes, in_order, part_range, sections_of, with_part}
 
 abbrev pub HasBytes : Part → Type 0
@@ -122,15 +123,13 @@ before_or_after : (part first : Part) (parts : List Part) (b : Bool)
     → Chain BeginsBefore (with_part part parts)
     → Chain BeginsBefore (if b then part ∷ first ∷ parts else first ∷ with_part part parts)
 before_or_after part first parts true is up rest =
-    let begins : part.at ≤ first.at = grind (arith, nat_tests) in
-    (
+    let begins : part.at ≤ first.at = grind (arith, nat_tests) in (
       All-cons (BeginsBefore part) first parts begins
-      (All-weaker (BeginsBefore first) (BeginsBefore part) (λ later after. omega arith) parts up.0),
+          (All-weaker (BeginsBefore first) (BeginsBefore part) (λ later after. omega arith) parts up.0),
       up,
     )
 before_or_after part first parts false is up rest =
-    let begins : first.at ≤ part.at = grind (arith, nat_tests) in
-    (
+    let begins : first.at ≤ part.at = grind (arith, nat_tests) in (
       All-permutation (BeginsBefore first) _ _ (IsPermutation-with_part part parts) (All-cons (BeginsBefore first) part parts begins up.0),
       rest,
     )
@@ -213,19 +212,19 @@ one_chain (part ∷ parts) [] chain later some more to from = absurd (contains_n
 one_chain (part ∷ parts) (other ∷ others) chain later some more to from =
     let P : Part → Type 0 =
     λ head.
-        Chain EndsBefore (head ∷ others)
-        → All HasBytes (head ∷ others)
-        → ((one : Part) → Contains (part ∷ parts) one → Contains (head ∷ others) one)
-        → ((one : Part) → Contains (head ∷ others) one → Contains (part ∷ parts) one)
-        → part ∷ parts ≡ head ∷ others in
+    Chain EndsBefore (head ∷ others)
+    → All HasBytes (head ∷ others)
+    → ((one : Part) → Contains (part ∷ parts) one → Contains (head ∷ others) one)
+    → ((one : Part) → Contains (head ∷ others) one → Contains (part ∷ parts) one)
+    → part ∷ parts ≡ head ∷ others in
     let same : part ≡ other =
     same_head part other parts others chain later some (to part (0, omega arith, refl)) (from other (0, omega arith, refl)) in
     subst P same
     (λ rest bytes onto back.
-        ap (λ all. part ∷ all)
-        (one_chain parts others chain.1 rest.1 (All-tail HasBytes part parts some) (All-tail HasBytes part others bytes)
-        (contains_tail part parts others chain some onto)
-        (contains_tail part others parts rest bytes back)))
+    ap (λ all. part ∷ all)
+    (one_chain parts others chain.1 rest.1 (All-tail HasBytes part parts some) (All-tail HasBytes part others bytes)
+    (contains_tail part parts others chain some onto)
+    (contains_tail part others parts rest bytes back)))
     later more to from
 
 -- what holds of the sections of some parts
@@ -285,3 +284,6 @@ sorted_is_sections_of parts kept sorted apart is moved up =
     (HasBytes-sections_of parts)
     (λ one has. Contains-permutation _ _ one onto (Contains-permutation _ _ one (IsPermutation-sym _ _ from) has))
     (λ one has. Contains-permutation _ _ one from (Contains-permutation _ _ one (IsPermutation-sym _ _ onto) has))
+
+pub sections_rise : SectionsRise
+sections_rise parts apart = AllPairs-from_Chain EndsBefore (sections_of parts) (Chain-sections_of parts apart)

@@ -1,6 +1,5 @@
 -- A table with one image more.
-use Rattle.std.proofs.Common.{◌≡◌, ℕ, ◌+◌, ◌*◌, ◌<◌, ◌≤◌, true, List, [], ◌∷◌, ◌++◌, length, sym, subst, arith, length-append}
-use Rattle.std.specs.List.{All, AllPairs}
+use Rattle.std.proofs.Common.{◌≡◌, ℕ, ◌+◌, ◌*◌, ◌≤◌, true, List, [], ◌∷◌, ◌++◌, length, sym, subst, arith, length-append}
 use Rattle.std.proofs.lemmas.List.Elements.{All-push, All-weaker}
 use Rattle.mm_base.specs.Platform.{mmram}
 use Rattle.mm_base.specs.Range.{encloses}
@@ -25,12 +24,12 @@ IsPlaced-placed name base image parts region header within apart = record {
   within = region;
   header = omega arith;
   between =
-    All-sections_of (λ part. (image.headers ≤ part.at) × (part.at + part.length ≤ 4096 * pages_filled image.size)) parts
-    (All-weaker
-    (λ part. (image.headers ≤ part.at) × (part.at + part.length ≤ image.size))
-    (λ part. (image.headers ≤ part.at) × (part.at + part.length ≤ 4096 * pages_filled image.size))
-    (λ part lies. (lies.0, omega arith))
-    parts within);
+      All-sections_of (λ part. (image.headers ≤ part.at) × (part.at + part.length ≤ 4096 * pages_filled image.size)) parts
+      (All-weaker
+      (λ part. (image.headers ≤ part.at) × (part.at + part.length ≤ image.size))
+      (λ part. (image.headers ≤ part.at) × (part.at + part.length ≤ 4096 * pages_filled image.size))
+      (λ part lies. (lies.0, omega arith))
+      parts within);
   bytes = HasBytes-sections_of parts;
   rising = AllPairs-from_Chain EndsBefore (sections_of parts) (Chain-sections_of parts apart);
 }
@@ -47,16 +46,16 @@ pub IsTable-admitted : (images : List PlacedImage) (capacity : ℕ) (name : Guid
     → LieBetween image.headers image.size parts
     → AreApart parts
     → IsTable
-      (images
-      ++ record { name = name; region = record { base = base; pages = pages }; headers = image.headers; sections = sections } ∷ [])
-      capacity
+    (images
+    ++ record { name = name; region = record { base = base; pages = pages }; headers = image.headers; sections = sections } ∷ [])
+    capacity
 IsTable-admitted images capacity name base image parts pages sections table some pages_are sections_are region header within apart =
     let one : PlacedImage = placed name base image parts in
     let Tables : ℕ → List Part → Type 0 =
     λ n list.
-        IsTable
-        (images ++ record { name = name; region = record { base = base; pages = n }; headers = image.headers; sections = list } ∷ [])
-        capacity in
+    IsTable
+    (images ++ record { name = name; region = record { base = base; pages = n }; headers = image.headers; sections = list } ∷ [])
+    capacity in
     let all : IsTable (images ++ one ∷ []) capacity =
     record {
       most = omega (arith, length-append images (one ∷ []), table.most, some);

@@ -1,5 +1,5 @@
 -- Sections for tests, put from both ends of a gap.
-use Rattle.std.proofs.Common.{◌≡◌, ℕ, suc, ◌+◌, ◌-◌, ◌*◌, ◌<◌, ◌≤◌, ◌⊎◌, false, List, [], ◌∷◌, ◌++◌, length, get_or, inl, inr, arith, length-append}
+use Rattle.std.proofs.Common.{◌≡◌, ℕ, ◌+◌, ◌-◌, ◌*◌, ◌<◌, ◌≤◌, ◌⊎◌, false, List, [], ◌∷◌, ◌++◌, get_or, inl, inr, arith, length-append}
 use Rattle.std.specs.List.{All}
 use Rattle.std.proofs.lemmas.Bool.Decides.{nat_tests}
 use Rattle.std.proofs.lemmas.List.Elements.{All-nil, All-push, All-weaker}
@@ -55,8 +55,8 @@ one_more end done low high parts part fit around least most from to = record {
   count = omega (arith, fit.count, length-append parts (part ∷ []));
   within = All-push (λ (part : Part). (512 ≤ part.at) × (part.at + part.length ≤ end)) parts part fit.within (omega arith, omega arith);
   apart =
-    all_pairs_push (λ (earlier part : Part). share_a_unit (part_range earlier) (part_range part) ≡ false) parts part fit.apart
-    (λ k d within. apart_beside low high (get_or parts k d) part (around k d within) from to);
+      all_pairs_push (λ (earlier part : Part). share_a_unit (part_range earlier) (part_range part) ≡ false) parts part fit.apart
+      (λ k d within. apart_beside low high (get_or parts k d) part (around k d within) from to);
 }
 
 beside_lower : (low high : ℕ) (part : Part) → Beside low high part → Beside (low + 16) high part
@@ -80,9 +80,9 @@ lowest_done end count k low high parts part less halfway at length_is = record {
   gap = omega (arith, halfway.gap);
   to = halfway.to;
   around =
-    All-push (Beside (low + 16) high) parts part
-    (All-weaker (Beside low high) (Beside (low + 16) high) (beside_lower low high) parts halfway.around)
-    (inl (omega arith));
+      All-push (Beside (low + 16) high) parts part
+      (All-weaker (Beside low high) (Beside (low + 16) high) (beside_lower low high) parts halfway.around)
+      (inl (omega arith));
 }
 
 -- it stands at the upper end
@@ -94,13 +94,13 @@ pub highest_done : (end count k low high : ℕ) (parts : List Part) (part : Part
     → Halfway end (k + 1) (count - (k + 1)) low (high - 16) (parts ++ part ∷ [])
 highest_done end count k low high parts part less halfway at length_is = record {
   fit =
-    one_more end k low high parts part halfway.fit halfway.around halfway.from halfway.to (omega (arith, halfway.gap))
-    (omega (arith, halfway.gap));
+      one_more end k low high parts part halfway.fit halfway.around halfway.from halfway.to (omega (arith, halfway.gap))
+      (omega (arith, halfway.gap));
   from = halfway.from;
   gap = omega (arith, halfway.gap);
   to = omega (arith, halfway.to);
   around =
-    All-push (Beside low (high - 16)) parts part
-    (All-weaker (Beside low high) (Beside low (high - 16)) (beside_higher low high) parts halfway.around)
-    (inr (omega arith));
+      All-push (Beside low (high - 16)) parts part
+      (All-weaker (Beside low high) (Beside low (high - 16)) (beside_higher low high) parts halfway.around)
+      (inr (omega arith));
 }

@@ -1,5 +1,5 @@
 -- The table of images, which contracts see as the list of its images in order of admission.
-use Rattle.std.specs.Prelude.{◌≡◌, ℕ, ◌≤◌, Bool, false, List, [], length, replicate, slice_get, All}
+use Rattle.std.specs.Prelude.{ℕ, ◌≤◌, Bool, false, List, [], length, replicate, slice_get, All}
 use Rattle.std.specs.Option.{option_map_or}
 use Rattle.mm_base.specs.Regions.{pages_filled}
 use Rattle.mm_base.specs.declared.access.Right.{Right}

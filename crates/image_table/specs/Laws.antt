@@ -1,13 +1,26 @@
--- What follows of home ranges. Images lie where they may (IsPlaced); each of a table does.
-use Rattle.std.specs.Prelude.{◌≡◌, ℕ, ◌+◌, ◌≤◌, true, false}
-use Rattle.std.specs.Prelude.{All, AllPairs}
+-- What follows of sections and of home ranges. Images lie where they may (IsPlaced); each of a table does.
+use Rattle.std.specs.Prelude.{◌≡◌, ℕ, ◌+◌, ◌≤◌, true, false, List, filter}
+use Rattle.std.specs.Prelude.{All, AllPairs, IsPermutation}
 use Rattle.mm_base.specs.Range.{Has, encloses, share_a_unit}
 use Rattle.mm_base.specs.Regions.{region_of, stack_of, communicate_page_of, service_page_of, pool_of, reserve_of}
 use Rattle.mm_base.specs.declared.access.Right.{Right}
-use Rattle.mm_base.specs.declared.access.Right.TheVariants.{Read, Write, Execute}
+use Rattle.mm_base.specs.declared.access.Right.TheVariants.{Read, Write}
+use Rattle.mm_base.specs.declared.image.Part.{Part}
 use Rattle.mm_base.specs.declared.range.Range.{Range}
 use Rattle.image_table.specs.HomeRanges.{IsPlaced, home_ranges, is_own}
+use Rattle.image_table.specs.Sections.{AreApart, has_bytes, sections_of}
 use Rattle.image_table.specs.declared.placed_image.PlacedImage.{PlacedImage}
+
+-- The sections are the parts that have bytes, in another order.
+abbrev pub SectionsAreParts : Type 0
+SectionsAreParts = (parts : List Part) → IsPermutation (filter has_bytes parts) (sections_of parts)
+
+-- Where no two parts share a byte, each section ends before the next begins.
+abbrev pub SectionsRise : Type 0
+SectionsRise =
+    (parts : List Part)
+    → AreApart parts
+    → AllPairs (λ part later. part.at + part.length ≤ later.at) (sections_of parts)
 
 -- Home ranges lie in their image's region.
 abbrev pub LieInTheirRegion : Type 0

@@ -1,8 +1,14 @@
-//! Laws of home ranges, and the limit of a table. These functions do nothing: their contracts are the laws.
+//! Laws of sections and home ranges, and the limit of a table. These functions do nothing: their contracts are the laws.
 ghost use Rattle.std.specs.Prelude.{◌≡◌};
-ghost use Rattle.image_table.specs.Laws.{LieInTheirRegion, Rise, LieApart, OfImagesApart, HoldWhatLiesWithin, HoldEachByte, HoldOwnPages};
+ghost use Rattle.image_table.specs.Laws.{SectionsAreParts, SectionsRise, LieInTheirRegion, Rise, LieApart, OfImagesApart, HoldWhatLiesWithin, HoldEachByte, HoldOwnPages};
 
 use crate::MOST_IMAGES;
+
+/// The sections by rising address are the parts that have bytes, and rise.
+pub fn sections_by_address()
+    ensures items { SectionsAreParts }
+    ensures rise { SectionsRise }
+{}
 
 /// Home ranges of a placed image lie in its region, rise, and lie apart from one another.
 pub fn home_ranges_of_an_image()

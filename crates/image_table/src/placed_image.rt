@@ -86,9 +86,11 @@ impl PlacedImage {
         };
         let sections = self.sections.as_slice();
         let count = sections.partition_point(|part| part.at as u64 <= offset);
-        sections[count.saturating_sub(2)..count]
-            .iter()
-            .any(|part| covers_with(&section_range(base, part), range, right))
+        sections[count.saturating_sub(2)..count].iter().any(|part| covers_with(
+            &section_range(base, part),
+            range,
+            right,
+        ))
     }
 }
 

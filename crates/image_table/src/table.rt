@@ -9,7 +9,9 @@ ghost use Rattle.image_table.specs.Sections.{AreApart, LieBetween};
 
 use crate::PlacedImage;
 use crate::sections::by_address;
-use mm_base::{GUID_BYTES, Guid, Homes, Image, List, NoMemory, Part, Range, Region, Right, pages_for};
+use mm_base::{
+    GUID_BYTES, Guid, Homes, Image, List, NoMemory, Part, Range, Region, Right, pages_for,
+};
 use std::alloc::Global;
 use std::marker::Model;
 

@@ -121,7 +121,10 @@ fn tells_home_ranges(rt: HostRuntime) -> Result<(), Fail> {
         *home = told(&table, 0, k as u32);
     }
     assert_eq!(rt; found, HOME_RANGES);
-    assert_eq!(rt; (table.owner(0), table.owner(1)), (Guid([7; 16]), Guid([0; 16])));
+    assert_eq!(rt;
+        (table.owner(0), table.owner(1)),
+        (Guid([7; 16]), Guid([0; 16]))
+    );
     Ok(())
 }
 
@@ -247,7 +250,10 @@ fn withdraw_last(table: &mut ImageTable) {
 fn admits_and_withdraws(rt: HostRuntime) -> Result<(), Fail> {
     let (mut table, right) = full(rt.alloc())?;
     assert_eq!(rt; (right, table.len()), (true, MOST_IMAGES));
-    assert_eq!(rt; (region(&table, 0), region(&table, 31)), ((0x8000_0000, 1), (0x807c_0000, 1)));
+    assert_eq!(rt;
+        (region(&table, 0), region(&table, 31)),
+        ((0x8000_0000, 1), (0x807c_0000, 1))
+    );
     withdraw_last(&mut table);
     let names = (table.owner(0), table.owner(30), table.owner(31));
     assert_eq!(rt; names, (Guid([0; 16]), Guid([30; 16]), Guid([0; 16])));
