@@ -86,11 +86,8 @@ impl PlacedImage {
         };
         let sections = self.sections.as_slice();
         let count = sections.partition_point(|part| part.at as u64 <= offset);
-        sections[count.saturating_sub(2)..count].iter().any(|part| covers_with(
-            &section_range(base, part),
-            range,
-            right,
-        ))
+        let last_two = &sections[count.saturating_sub(2)..count];
+        last_two.iter().any(|part| covers_with(&section_range(base, part), range, right))
     }
 }
 
