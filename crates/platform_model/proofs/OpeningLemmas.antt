@@ -1,6 +1,7 @@
 -- What the cells hold at the start, line by line.
 use Rattle.std.proofs.Common.{◌≡◌, ◌≢◌, ◌⊎◌, inl, inr, ℕ, zero, suc, ◌+◌, ◌-◌, ◌<◌, ◌≤◌, Bool, true, false, ◌&&◌, ◌==◌, List, [], ◌∷◌, ◌++◌}
-use Rattle.std.proofs.Common.{length, get_or, set, take, replicate, Option, Some, None, refl, sym, ap, ◌∙◌, arith, nat_lt, ne_eqb, eq-eqb, cond, add-zero, add-one, append_assoc, subst}
+use Rattle.std.proofs.Common.{length, get_or, set, take, Option, Some, refl, sym, ap, ◌∙◌, arith, nat_lt, ne_eqb, eq-eqb, cond, add-zero}
+use Rattle.std.proofs.Common.{add-one, append_assoc, subst}
 use Rattle.std.specs.Prelude.{if◌then◌else◌, reverse, find}
 use Rattle.std.specs.Option.{option_map_or}
 use Rattle.std.specs.List.{All}
@@ -153,7 +154,8 @@ module _ (lines : List CellWrite) (kind : Kind) where
       none_set n first (inr past) = values_stay n first (λ at from to. other_cell at (λ same. absurd (omega arith)))
 
     -- the cells after a line of another kind
-    pub kind_stays : (n first : ℕ) → same_kind line.kind kind ≡ false → opening_values longer kind first n ≡ opening_values lines kind first n
+    pub kind_stays : (n first : ℕ) → same_kind line.kind kind ≡ false
+        → opening_values longer kind first n ≡ opening_values lines kind first n
     kind_stays n first other = values_stay n first (λ at from to. ap (λ b. b && (line.at == at)) other)
 
 -- ---- all cells
@@ -245,7 +247,8 @@ unfolding zeros
 length-zeros n = length-replicate n 0
 
 -- all cells of the map are there in the blank ones
-pub blank_is_whole : (ports device msrs upper : List ℕ) → ports ≡ zeros 65536 → device ≡ zeros 65536 → msrs ≡ zeros 8192 → upper ≡ zeros 8192
+pub blank_is_whole : (ports device msrs upper : List ℕ)
+    → ports ≡ zeros 65536 → device ≡ zeros 65536 → msrs ≡ zeros 8192 → upper ≡ zeros 8192
     → IsPlatform (record { ports = ports; device = device; msrs = msrs; upper_msrs = upper })
 blank_is_whole ports device msrs upper p d m u =
     record {

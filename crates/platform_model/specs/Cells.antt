@@ -1,8 +1,9 @@
 -- What contracts see of the platform's cells.
 use Rattle.std.specs.Prelude.{◌≡◌, ◌⊎◌, ℕ, ◌-◌, nat_lt, List, length, get_or, set, if◌then◌else◌}
 
--- The ports and the bytes of the device window, 65,536 of each, and the lower and the upper model-specific registers, 8,192 of each.
--- Each list begins with the cell that has the lowest number. Platforms whose cells hold the same are the same.
+-- The ports and the bytes of the device window, 65,536 of each, and the lower and the upper model-specific registers,
+-- 8,192 of each. Each list begins with the cell that has the lowest number. Platforms whose cells hold the same are the
+-- same.
 pub record PlatformState : Type 0 where
   pub ports : List ℕ
   pub device : List ℕ

@@ -1,5 +1,6 @@
 -- Laws of cells.
-use Rattle.std.specs.Prelude.{◌≡◌, ◌≢◌, ◌⊎◌, ℕ, ◌+◌, ◌%◌, ◌^◌, ◌≤◌, ◌<◌, true, false, List, ◌∷◌, ◌++◌, length, get_or, All}
+use Rattle.std.specs.Prelude.{◌≡◌, ◌≢◌, ◌⊎◌, ℕ, ◌+◌, ◌%◌, ◌^◌, ◌≤◌, ◌<◌, true, false, List, ◌∷◌, ◌++◌, length, get_or}
+use Rattle.std.specs.Prelude.{All}
 use Rattle.mm_base.specs.Cells.{is_msr}
 use Rattle.mm_base.specs.Numbers.{low_bytes, number_in, overwritten}
 use Rattle.mm_base.specs.declared.access.Kind.{Kind}

@@ -1,6 +1,6 @@
 -- No public clause cites this file.
 -- How the cells get their values at the start, a line at a time.
-use Rattle.std.specs.Prelude.{ℕ, ◌-◌, List, set}
+use Rattle.std.specs.Prelude.{ℕ, ◌-◌, set}
 use Rattle.mm_base.specs.Frames.{zeros}
 use Rattle.mm_base.specs.declared.access.Kind.{Kind}
 use Rattle.mm_base.specs.declared.access.Kind.TheVariants.{Memory, Io, Msr, Saved}

@@ -17,6 +17,6 @@ pub fn registers_are_local()
 /// What each cell holds at the start.
 pub fn last_line_holds()
     ensures value { LastLineHolds }
-    ensures none { OthersHoldZero }
+    ensures zero { OthersHoldZero }
     ensures each { EachHoldsItsOwn }
 {}

@@ -14,7 +14,7 @@ use mm_base::{
 use std::alloc::Global;
 use std::marker::Model;
 
-/// All cells of the platform, in flat lists.
+/// All cells of the platform, in flat lists. Each call but `new` takes no memory, and costs the same whichever cells it is of.
 #[derive(Debug, Drop)]
 pub struct Platform {
     ports: Vec<u8>,
@@ -44,7 +44,8 @@ impl Model for Platform {
 }
 
 impl Platform {
-    /// The cells as they are at the start. It costs one step a cell of the platform, and one for each line of the opening.
+    /// The cells as they are at the start: of two lines for one cell the later one holds, and a cell without a line is 0. It takes
+    /// memory for all cells, 256 KiB, and costs one step a cell and one a line.
     pub fn new(alloc: Global, opening: &Opening) -> Result<Platform, NoMemory>
         requires { IsOpening opening.now.cells }
         ensures { IfOk result (λ platform. platform ≡ opening_state opening.now.cells) }
@@ -106,7 +107,7 @@ impl Platform {
         overwrite_low(&mut self.ports, port as usize, n, value);
     }
 
-    /// The model-specific register with this number.
+    /// The model-specific register with this number, below 2000 (hexadecimal), or from C0000000 to C0001FFF.
     pub fn rdmsr(&self, index: u64) -> u64
         requires there { IsTrue (is_msr index) }
         ensures { result ≡ register_in self.now index }
@@ -139,11 +140,8 @@ impl Platform {
         ensures value { result ≡ number_in self.now.device (at - 0xfe000000) n }
         ensures small { result < 256 ^ n }
     {
-        small_number_at(
-            self.device.as_slice(),
-            (at - DEVICE_WINDOW.base) as usize,
-            n,
-        )
+        let place = (at - DEVICE_WINDOW.base) as usize;
+        small_number_at(self.device.as_slice(), place, n)
     }
 
     /// Writes the `n` low bytes of a number to the device bytes from the address `at` on; `n` is 1 to 8.
@@ -156,12 +154,8 @@ impl Platform {
           device = overwritten self.old.device (at - 0xfe000000) (low_bytes n value);
         } }
     {
-        overwrite_low(
-            &mut self.device,
-            (at - DEVICE_WINDOW.base) as usize,
-            n,
-            value,
-        );
+        let place = (at - DEVICE_WINDOW.base) as usize;
+        overwrite_low(&mut self.device, place, n, value);
     }
 }
 

@@ -1,5 +1,6 @@
 -- What rules say of an access, one after another.
-use Rattle.std.proofs.Common.{◌≡◌, ◌≢◌, ◌⊎◌, inl, inr, ℕ, suc, zero, ◌+◌, Bool, true, false, ◌&&◌, List, [], ◌∷◌, ◌++◌, length, refl, sym, ap, ◌∙◌, zero-add, arith}
+use Rattle.std.proofs.Common.{◌≡◌, ◌≢◌, inl, inr, ℕ, suc, ◌+◌, Bool, true, false, ◌&&◌, List, [], ◌∷◌, ◌++◌, length, refl, sym, ap, ◌∙◌}
+use Rattle.std.proofs.Common.{zero-add, arith}
 use Rattle.std.specs.Prelude.{if◌then◌else◌}
 use Rattle.std.specs.List.{All}
 use Rattle.std.proofs.lemmas.List.Elements.{All-head, All-tail}
@@ -18,7 +19,9 @@ use Rattle.mm_base.specs.declared.range.Range.{Range}
 use Rattle.secure_policy.specs.declared.place.Place.{Place}
 use Rattle.secure_policy.specs.declared.place.Place.TheVariants.{Nowhere, Mmram, LaneWindow, Cells}
 use Rattle.secure_policy.specs.Places.{place_of}
-use Rattle.secure_policy.specs.Verdicts.{Basis, verdict_on, verdict_at, verdict_by_rules, units_from, same_kind, is_for, is_about, is_allowed_by}
+use Rattle.secure_policy.specs.Verdicts.{Basis, verdict_on, verdict_at, verdict_by_rules, units_from, with_rules, same_kind}
+use Rattle.secure_policy.specs.Verdicts.{is_for, is_about}
+use Rattle.secure_policy.specs.Verdicts.{is_allowed_by}
 use Rattle.secure_policy.specs.Laws.{IsBeside}
 
 -- ---- rules beside an access
@@ -66,7 +69,8 @@ module _ (name : Guid) (kind : Kind) (access : Range) where
         ap (λ (b : Bool). if b then said_by k rule else by rules (suc k)) (not_about rule beside)
 
     -- a rule beside the access for another such rule
-    pub exchanged : (before after : List Rule) (rule other : Rule) (k : ℕ) → IsBeside name kind access rule → IsBeside name kind access other
+    pub exchanged : (before after : List Rule) (rule other : Rule) (k : ℕ)
+        → IsBeside name kind access rule → IsBeside name kind access other
         → by (before ++ rule ∷ after) k ≡ by (before ++ other ∷ after) k
     exchanged [] after rule other k beside too = passed_over rule after k beside ∙ sym (passed_over other after k too)
     exchanged (x ∷ before) after rule other k beside too =
@@ -159,12 +163,12 @@ module _ (basis : Basis) (image : ℕ) (kind : Kind) (base n : ℕ) (trapped : �
 
 -- ---- exchanges in whole verdicts
 
-pub verdict_exchanged : (is_home : ℕ → Range → Right → Bool) (name_of : ℕ → Guid) (before after : List Rule) (rule other : Rule)
+pub verdict_exchanged : (basis : Basis) (before after : List Rule) (rule other : Rule)
     → (image : ℕ) (kind : Kind) (base n : ℕ) (right : Right) (trapped : ℕ)
-    → IsBeside (name_of image) kind (units_from base n) rule → IsBeside (name_of image) kind (units_from base n) other
-    → verdict_on (record { is_home = is_home; name_of = name_of; rules = before ++ rule ∷ after }) image kind base n right trapped
-    ≡ verdict_on (record { is_home = is_home; name_of = name_of; rules = before ++ other ∷ after }) image kind base n right trapped
+    → IsBeside (basis.name_of image) kind (units_from base n) rule → IsBeside (basis.name_of image) kind (units_from base n) other
+    → verdict_on (with_rules (before ++ rule ∷ after) basis) image kind base n right trapped
+    ≡ verdict_on (with_rules (before ++ other ∷ after) basis) image kind base n right trapped
 unfolding verdict_on
-verdict_exchanged is_home name_of before after rule other image kind base n right trapped beside too =
-    ap (verdict_at (place_of kind (units_from base n)) (is_home image (units_from base n) right))
-    (exchanged (name_of image) kind (units_from base n) right before after rule other 0 beside too)
+verdict_exchanged basis before after rule other image kind base n right trapped beside too =
+    ap (verdict_at (place_of kind (units_from base n)) (basis.is_home image (units_from base n) right))
+    (exchanged (basis.name_of image) kind (units_from base n) right before after rule other 0 beside too)

@@ -1,6 +1,7 @@
 -- Accesses, unit by unit.
-use Rattle.std.proofs.Common.{◌≡◌, ◌⊎◌, inl, inr, ℕ, zero, suc, ◌+◌, ◌≤◌, ◌<◌, Bool, true, false, ◌&&◌, List, [], ◌∷◌, refl, sym, ap, ◌∙◌, arith, nat_lt}
-use Rattle.std.specs.Prelude.{if◌then◌else◌, nat_le, ◌^◌}
+use Rattle.std.proofs.Common.{◌≡◌, ◌⊎◌, inl, inr, ℕ, zero, suc, ◌+◌, ◌≤◌, ◌<◌, Bool, true, false, ◌&&◌, List, [], ◌∷◌, refl, ap, ◌∙◌, arith}
+use Rattle.std.proofs.Common.{nat_lt}
+use Rattle.std.specs.Prelude.{if◌then◌else◌, ◌^◌}
 use Rattle.std.proofs.lemmas.Bool.Decides.{nat_tests, eqb_tells}
 use Rattle.mm_base.specs.Platform.{mmram, lane_window, device_window}
 use Rattle.mm_base.specs.Range.{Has, encloses, share_a_unit}
@@ -92,7 +93,8 @@ module _ (kind : Kind) where
 
 -- the place of bytes, by its four tests
 abbrev place_by : Bool → Bool → Bool → Bool → Place
-place_by past mmram lanes device = if past then Nowhere else if mmram then Mmram else if lanes then LaneWindow else if device then Cells else Nowhere
+place_by past mmram lanes device =
+    if past then Nowhere else if mmram then Mmram else if lanes then LaneWindow else if device then Cells else Nowhere
 
 cells_of_bytes : (past mmram lanes device : Bool) → place_by past mmram lanes device ≡ Cells → device ≡ true
 cells_of_bytes true mmram lanes device e = cc

@@ -1,6 +1,5 @@
 -- The verdict by the place of an access.
 use Rattle.std.proofs.Common.{◌≡◌, ℕ, Bool, true, false, List, sym, ap, ◌∙◌}
-use Rattle.std.specs.Prelude.{if◌then◌else◌}
 use Rattle.mm_base.specs.declared.access.Kind.{Kind}
 use Rattle.mm_base.specs.declared.access.Right.{Right}
 use Rattle.mm_base.specs.declared.access.Verdict.{Verdict}
@@ -8,9 +7,8 @@ use Rattle.mm_base.specs.declared.access.Verdict.TheVariants.{Pass, Deny}
 use Rattle.mm_base.specs.declared.access.Why.TheVariants as whys
 use Rattle.mm_base.specs.declared.guid.Guid.{Guid}
 use Rattle.mm_base.specs.declared.policy.Rule.{Rule}
-use Rattle.mm_base.specs.declared.range.Range.{Range}
 use Rattle.secure_policy.specs.declared.place.Place.{Place}
-use Rattle.secure_policy.specs.declared.place.Place.TheVariants.{Nowhere, Mmram, LaneWindow, Cells}
+use Rattle.secure_policy.specs.declared.place.Place.TheVariants.{Mmram, Cells}
 use Rattle.secure_policy.specs.Places.{place_of}
 use Rattle.secure_policy.specs.Verdicts.{Basis, verdict_on, verdict_at, verdict_by_rules, units_from}
 

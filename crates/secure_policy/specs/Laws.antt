@@ -1,5 +1,5 @@
 -- Laws of verdicts.
-use Rattle.std.specs.Prelude.{◌≡◌, ◌≢◌, ◌⊎◌, ℕ, Bool, true, false, List, [], ◌∷◌, ◌++◌, length, All}
+use Rattle.std.specs.Prelude.{◌≡◌, ◌≢◌, ◌⊎◌, ℕ, Bool, true, false, List, ◌∷◌, ◌++◌, length, All}
 use Rattle.mm_base.specs.Platform.{mmram}
 use Rattle.mm_base.specs.Range.{Has, encloses, share_a_unit}
 use Rattle.mm_base.specs.declared.access.Kind.{Kind}
@@ -12,7 +12,8 @@ use Rattle.mm_base.specs.declared.access.Why.TheVariants as whys
 use Rattle.mm_base.specs.declared.guid.Guid.{Guid}
 use Rattle.mm_base.specs.declared.policy.Rule.{Rule}
 use Rattle.mm_base.specs.declared.range.Range.{Range}
-use Rattle.secure_policy.specs.Verdicts.{Basis, verdict_on, is_about, is_allowed_by, is_for, units_from, verdict_by_rules}
+use Rattle.secure_policy.specs.Verdicts.{Basis, verdict_on, is_about, is_allowed_by, is_for}
+use Rattle.secure_policy.specs.Verdicts.{units_from, verdict_by_rules, with_rules}
 
 -- whether the access may be made
 abbrev pub passes : Verdict → Bool
@@ -39,15 +40,16 @@ abbrev pub IsBeside : Guid → Kind → Range → Rule → Type 0
 IsBeside name kind access rule =
     (rule.kind ≢ kind) ⊎ ((is_for name rule ≡ false) ⊎ (share_a_unit rule.range access ≡ false))
 
--- Such a rule may be exchanged for another such rule: the verdict stays, and so does the number of the rule that it names.
+-- Such a rule may be exchanged for another such rule: the verdict stays, and so does the number of the rule that it
+-- names.
 abbrev pub OthersMayBeExchanged : Type 0
 OthersMayBeExchanged =
-    (is_home : ℕ → Range → Right → Bool) (name_of : ℕ → Guid) (before after : List Rule) (rule other : Rule)
+    (basis : Basis) (before after : List Rule) (rule other : Rule)
     (image : ℕ) (kind : Kind) (base n : ℕ) (right : Right) (trapped : ℕ)
-    → IsBeside (name_of image) kind (units_from base n) rule
-    → IsBeside (name_of image) kind (units_from base n) other
-    → verdict_on (record { is_home = is_home; name_of = name_of; rules = before ++ rule ∷ after }) image kind base n right trapped
-    ≡ verdict_on (record { is_home = is_home; name_of = name_of; rules = before ++ other ∷ after }) image kind base n right trapped
+    → IsBeside (basis.name_of image) kind (units_from base n) rule
+    → IsBeside (basis.name_of image) kind (units_from base n) other
+    → verdict_on (with_rules (before ++ rule ∷ after) basis) image kind base n right trapped
+    ≡ verdict_on (with_rules (before ++ other ∷ after) basis) image kind base n right trapped
 
 -- The first rule that isn't beside an access decides it, and is named by how many stand before it.
 abbrev pub FirstRuleDecides : Type 0

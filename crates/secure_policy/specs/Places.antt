@@ -21,8 +21,8 @@ abbrev pub have_cells : Kind → ℕ → ℕ → Bool
 have_cells kind base zero = true
 have_cells kind base (suc n) = has_cell kind base && have_cells kind (suc base) n
 
--- Of memory: an access that ends past 2 ^ 64 lies nowhere; one byte in MMRAM makes it one of MMRAM, and one in the lanes' window one
--- of that; else the device window covers it, or it lies nowhere.
+-- Of memory: an access that ends past 2 ^ 64 lies nowhere; one byte in MMRAM makes it one of MMRAM, and one in the
+-- lanes' window one of that; else the device window covers it, or it lies nowhere.
 abbrev pub place_of_bytes : Range → Place
 place_of_bytes access =
     if nat_lt (2 ^ 64) (access.base + access.length) then Nowhere

@@ -1,5 +1,5 @@
 -- What is home to two images, for tests, which no program uses.
-use Rattle.std.specs.Prelude.{ℕ, Bool, true, false, ◌==◌, ◌&&◌, ◌||◌, if◌then◌else◌, replicate}
+use Rattle.std.specs.Prelude.{ℕ, Bool, ◌==◌, ◌&&◌, ◌||◌, if◌then◌else◌, replicate}
 use Rattle.mm_base.specs.Range.{encloses}
 use Rattle.mm_base.specs.declared.access.Right.{Right}
 use Rattle.mm_base.specs.declared.access.Right.TheVariants.{Read, Write, Execute}
@@ -13,7 +13,8 @@ code_of_test = record { base = 0x80000000; length = 0x100 }
 -- its stack or its communicate page covers a range
 abbrev pub is_data_of_test : Range → Bool
 is_data_of_test range =
-    encloses (record { base = 0x80001000; length = 0x4000 }) range || encloses (record { base = 0x80005000; length = 0x1000 }) range
+    encloses (record { base = 0x80001000; length = 0x4000 }) range
+    || encloses (record { base = 0x80005000; length = 0x1000 }) range
 
 abbrev pub is_home_to_first : Range → Right → Bool
 is_home_to_first range Read = encloses code_of_test range || is_data_of_test range

@@ -1,5 +1,5 @@
--- The verdict on an access of an image: the platform's map, the image's own ranges, and the rules of a policy. It is this project's
--- own.
+-- The verdict on an access of an image: the platform's map, the image's own ranges, and the rules of a policy. It is
+-- this project's own.
 use Rattle.std.specs.Prelude.{ℕ, suc, Bool, true, false, ◌&&◌, ◌||◌, if◌then◌else◌, List, [], ◌∷◌, replicate}
 use Rattle.mm_base.specs.Guid.{same_guid}
 use Rattle.mm_base.specs.Range.{share_a_unit, encloses}
@@ -24,6 +24,11 @@ pub record Basis : Type 0 where
   pub name_of : ℕ → Guid
   pub rules : List Rule
 
+-- the same homes and names with other rules
+abbrev pub with_rules : List Rule → Basis → Basis
+with_rules rules basis = record { is_home = basis.is_home; name_of = basis.name_of; rules = rules }
+
+-- whether two kinds are the same
 abbrev pub same_kind : Kind → Kind → Bool
 same_kind Memory Memory = true
 same_kind Io Io = true
@@ -39,7 +44,7 @@ every_image = record { 0 = replicate 16 0 }
 abbrev pub is_for : Guid → Rule → Bool
 is_for name rule = same_guid rule.owner every_image || same_guid rule.owner name
 
--- whether a rule is about an access: it is of the access's kind, for the image, and has a unit in common with the access
+-- whether a rule is about an access: it is of the access's kind, for the image, and has a unit in common with it
 abbrev pub is_about : Guid → Kind → Range → Rule → Bool
 is_about name kind access rule = same_kind rule.kind kind && is_for name rule && share_a_unit rule.range access
 
@@ -61,8 +66,8 @@ verdict_by_rules (rule ∷ rules) k name kind access right =
     then (if is_allowed_by access right rule then Pass (whys.Rule k) else Deny (whys.Rule k))
     else verdict_by_rules rules (suc k) name kind access right
 
--- By the place of an access: nothing passes that lies nowhere, or in the lanes' window; in MMRAM, what is home; the rules decide on
--- cells.
+-- By the place of an access: nothing passes that lies nowhere, or in the lanes' window; in MMRAM, what is home; on
+-- cells the rules decide.
 abbrev pub verdict_at : Place → Bool → Verdict → Verdict
 verdict_at Nowhere home by_rules = Deny whys.Range
 verdict_at Mmram home by_rules = if home then Pass whys.Home else Deny whys.Mmram
@@ -73,8 +78,8 @@ verdict_at Cells home by_rules = by_rules
 abbrev pub units_from : ℕ → ℕ → Range
 units_from base n = record { base = base; length = n }
 
--- The verdict on an access of an image: n units of a kind from a base on, for a right. What access the processor was trapped at is no
--- part of it yet.
+-- The verdict on an access of an image: n units of a kind from a base on, for a right. The access that the processor
+-- was trapped at is no part of it yet.
 unfoldable pub verdict_on : Basis → ℕ → Kind → ℕ → ℕ → Right → ℕ → Verdict
 verdict_on basis image kind base n right trapped =
     let access = units_from base n in

@@ -44,9 +44,9 @@ impl Guard {
         &self.policy
     }
 
-    /// The verdict on an access of an image: `n` units of `kind` from `base` on. It rests on the platform's map, then on the image's own
-    /// ranges, then on the first rule about the access. `trapped` is the access that the processor was trapped at, 0 where there is
-    /// none; no rule asks for it yet. It costs one step a rule, up to that one.
+    /// The verdict on an access of an image: `n` units of `kind` from `base` on. It rests on the platform's map, then on the image's
+    /// own ranges, then on the first rule about the access. `trapped` is the access that the processor was trapped at, 0 where
+    /// there is none; no rule asks for it yet. It costs one step a rule, up to the one that decides.
     pub fn decide<H: Homes>(
         &self,
         homes: &H,

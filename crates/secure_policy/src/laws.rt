@@ -1,6 +1,7 @@
 //! Laws of verdicts. These functions do nothing: their contracts are the laws.
 ghost use Rattle.std.specs.Prelude.{◌≡◌};
-ghost use Rattle.secure_policy.specs.Laws.{PassesAtEachUnit, OthersMayBeExchanged, FirstRuleDecides, NoRuleDecides, ExecutesHomeAlone, NeverQuota};
+ghost use Rattle.secure_policy.specs.Laws.{PassesAtEachUnit, OthersMayBeExchanged, FirstRuleDecides, NoRuleDecides};
+ghost use Rattle.secure_policy.specs.Laws.{ExecutesHomeAlone, NeverQuota};
 
 /// What passes as a whole passes unit by unit, for the same image and right.
 pub fn passes_unit_by_unit()
@@ -9,8 +10,8 @@ pub fn passes_unit_by_unit()
 
 /// The first rule about an access decides it, and no other rule matters.
 pub fn first_rule_decides()
-    ensures first { FirstRuleDecides }
-    ensures none { NoRuleDecides }
+    ensures decides { FirstRuleDecides }
+    ensures no_rule { NoRuleDecides }
     ensures exchange { OthersMayBeExchanged }
 {}
 

@@ -1,4 +1,4 @@
-use Rattle.std.proofs.Common.{◌≡◌, ℕ, ◌<◌, ◌∙◌, ap, sym, true, arith}
+use Rattle.std.proofs.Common.{◌∙◌, ap, sym, arith}
 use Rattle.mm_base.specs.declared.access.Kind.{Kind}
 use Rattle.secure_policy.specs.Places.{have_cells}
 use Rattle.secure_policy.proofs.PlaceLemmas.{memory_cells, port_cells, msr_cells, saved_cells, first_window, second_window}

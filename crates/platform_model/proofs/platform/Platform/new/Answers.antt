@@ -1,4 +1,4 @@
-use Rattle.std.proofs.Common.{◌≡◌, List, All, ap, sym, ◌∙◌, subst}
+use Rattle.std.proofs.Common.{List, All, sym, ◌∙◌, subst}
 use Rattle.mm_base.specs.Cells.{IsOpeningCell}
 use Rattle.mm_base.specs.declared.cells.CellWrite.{CellWrite}
 use Rattle.platform_model.proofs.OpeningLemmas.{no_lines, more_lines}
