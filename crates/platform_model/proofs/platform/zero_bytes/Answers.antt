@@ -1,0 +1,6 @@
+use Rattle.mm_base.specs.Frames.{zeros}
+use Rattle.platform_model.proofs.platform.zero_bytes.Goals as goal
+
+pub returns : goal.returns
+unfolding zeros
+returns c = c.in_ok-bytes.ensures.items_if_clones_equal (λ y h. h)

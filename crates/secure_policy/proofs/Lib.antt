@@ -1,0 +1,4 @@
+pub mod LawLemmas
+pub mod PlaceLemmas
+pub mod UnitLemmas
+pub mod VerdictLemmas
