@@ -3,9 +3,10 @@ use Rattle.std.proofs.Common.{◌≡◌, ◌⊎◌, ℕ, ◌+◌, ◌-◌, ◌*�
 use Rattle.std.proofs.lemmas.Int.{ints}
 use Rattle.std.proofs.lemmas.Nat.{field_of, shr_below}
 use Rattle.std.proofs.Math.Nat.{min_comm, sub-zero}
-use Rattle.ebc_alu.specs.Reading.{reduced}
-use Rattle.ebc_alu.specs.Index.{bits_between, fields_end, natural_bits, distance, sign_of, offset_of}
-use Rattle.ebc_alu.proofs.ReadingLemmas.{reduced_is}
+use Rattle.ebc_alu.specs.Reading.{signed, reduced}
+use Rattle.ebc_alu.specs.Results.{extension}
+use Rattle.ebc_alu.specs.Index.{bits_between, fields_end, natural_bits, distance, sign_of, offset_of, immediate_of}
+use Rattle.ebc_alu.proofs.ReadingLemmas.{reduced_is, reduced-signed}
 
 -- 2, 4 or 8 bytes are few
 pub few_bytes : (bytes : ℕ) → (bytes ≡ 2) ⊎ ((bytes ≡ 4) ⊎ (bytes ≡ 8)) → (1 ≤ bytes) × (bytes ≤ 8)
@@ -113,3 +114,15 @@ module _ (bytes raw end natural : ℕ) (ends : end + 4 ≡ 8 * bytes) (small : e
   pub minus-is : 8 ≤ raw / 2 ^ end → (0 + (2 ^ 64 - d)) % 2 ^ 64 ≡ offset_of bytes raw
   minus-is h =
       sym (offset-minus bytes raw end ends fits-end distance-fits h ∙ ap (λ n. (0 + (2 ^ 64 - n)) % 2 ^ 64) is-distance)
+
+-- ---- immediates
+
+pub immediate-is : (bytes from raw value : ℕ) → 8 * bytes ≡ from → value ≡ extension from 64 raw → value ≡ immediate_of bytes raw
+unfolding immediate_of
+immediate-is bytes from raw value size is = is ∙ ap (λ (k : ℕ). extension k 64 raw) (sym size)
+
+pub immediate-whole : (raw : ℕ) → raw < 2 ^ 64 → raw ≡ extension 64 64 raw
+unfolding extension
+immediate-whole raw small =
+    let same : raw % 2 ^ 64 ≡ raw = omega arith in
+    sym (ap (λ (n : ℕ). reduced 64 (signed 64 n)) same ∙ reduced-signed 64 raw small)

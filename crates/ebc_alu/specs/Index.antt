@@ -1,9 +1,10 @@
--- Natural indexes (UEFI 2.10, section 22.4): an offset that counts natural units, which have 8 bytes here, and bytes.
+-- Natural indexes (UEFI 2.10, section 22.4): an offset that counts natural units, which have 8 bytes here, and bytes. Immediates too.
 --
 -- From the top down an index of 2, 4 or 8 bytes has the sign, three bits that say how wide the natural field is, the
 -- constant field and the natural field.
 use Rattle.std.specs.Prelude.{ℕ, ◌+◌, ◌-◌, ◌*◌, ◌/◌, ◌%◌, ◌^◌, min, if◌then◌else◌, ◌==◌, ℤ, pos, negsuc, ◌*ℤ◌}
 use Rattle.ebc_alu.specs.Reading.{reduced}
+use Rattle.ebc_alu.specs.Results.{extension}
 
 -- the bits of a number from one place up to another, which is not counted
 abbrev pub bits_between : ℕ → ℕ → ℕ → ℕ
@@ -31,3 +32,7 @@ sign_of bytes raw = if bits_between (8 * bytes - 1) (8 * bytes) raw == 0 then po
 -- The value of an index, modulo 2^64.
 unfoldable pub offset_of : ℕ → ℕ → ℕ
 offset_of bytes raw = reduced 64 (sign_of bytes raw *ℤ pos (distance bytes raw))
+
+-- The value of an immediate (section 22.7): its bytes, with their sign extended, modulo 2^64.
+unfoldable pub immediate_of : ℕ → ℕ → ℕ
+immediate_of bytes raw = extension (8 * bytes) 64 raw

@@ -6,6 +6,7 @@
 mod bits;
 mod comparison;
 mod extensions;
+mod immediate;
 mod index;
 pub mod laws;
 mod operation;
@@ -17,6 +18,7 @@ mod sums;
 mod tests;
 
 pub use comparison::compare;
+pub use immediate::immediate_value;
 pub use index::index_value;
 pub use mm_base::{AluOp, CmpOp};
 pub use operation::{DivideError, alu};

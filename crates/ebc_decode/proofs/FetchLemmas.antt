@@ -8,7 +8,8 @@ use Rattle.ebc_decode.specs.Spelling.{spelling_of}
 use Rattle.ebc_decode.specs.Reading.{IsInstruction, TellsEach}
 use Rattle.ebc_decode.specs.ReadingInside.{number_of, number_in, head_in}
 use Rattle.ebc_decode.proofs.ByteLemmas.{length-little, little-add, little-number_of, number_of-append}
-use Rattle.ebc_decode.proofs.WordLemmas.{head_of, tail_of, two_to_eighteen}
+use Rattle.ebc_decode.specs.Decoding.{head_of, tail_of}
+use Rattle.ebc_decode.proofs.WordLemmas.{two_to_eighteen}
 
 -- ---- words
 

@@ -9,8 +9,9 @@ use Rattle.ebc_decode.specs.Lawful.{IsLawful}
 use Rattle.ebc_decode.specs.ReadingInside.{number_of, widths, bytes_if, head_in}
 use Rattle.ebc_decode.proofs.ByteLemmas.{little-number_of}
 use Rattle.ebc_decode.proofs.TableLemmas.{same_opcode}
-use Rattle.ebc_decode.proofs.ReadLemmas.{made_of, spelled}
-use Rattle.ebc_decode.proofs.WordLemmas.{head_of, tail_of, Held, held}
+use Rattle.ebc_decode.specs.Decoding.{head_of, tail_of, made_of}
+use Rattle.ebc_decode.proofs.ReadLemmas.{spelled}
+use Rattle.ebc_decode.proofs.WordLemmas.{Held, held}
 
 -- two instructions with which the bytes of one number begin are one
 pub one_held : (n number : ℕ) (one other : Ins) → Held n number one → Held n number other → one ≡ other

@@ -8,5 +8,6 @@ pub mod ReadLemmas
 pub mod WordLemmas
 pub mod LawLemmas
 pub mod ToldLemmas
+pub mod DecodingLemmas
 pub mod FetchLemmas
 pub mod WriteLemmas

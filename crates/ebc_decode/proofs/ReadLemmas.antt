@@ -9,22 +9,12 @@ use Rattle.ebc_decode.specs.Spelling.{bit, spelling_of}
 use Rattle.ebc_decode.specs.Lawful.{IsLawful}
 use Rattle.ebc_decode.specs.Reading.{size_of}
 use Rattle.ebc_decode.specs.ReadingInside.{opcode_number, widths, bytes_if, layout_length, built, head_in, Begins}
+use Rattle.ebc_decode.specs.Decoding.{first_of, second_of, made_of}
 use Rattle.ebc_decode.proofs.ByteLemmas.{length-little, little-fields}
 use Rattle.ebc_decode.proofs.HeadLemmas.{IsHead, with_fields, byte_0, byte_0-lt, place_bits-lt, head_in-is, byte_0-head_in, head_in-back}
 use Rattle.ebc_decode.proofs.SoundLemmas.{sound}
 use Rattle.ebc_decode.proofs.FormLemmas.{form}
 use Rattle.ebc_decode.proofs.TableLemmas.{number_below}
-
--- the fields that follow, in the number after the first two bytes
-abbrev pub first_of : Opcode → Head → ℕ → ℕ
-first_of opcode head number = number % 256 ^ bytes_if (widths opcode head).first
-
-abbrev pub second_of : Opcode → Head → ℕ → ℕ
-second_of opcode head number = number / 256 ^ bytes_if (widths opcode head).first % 256 ^ bytes_if (widths opcode head).second
-
--- what is made of two bytes and the number after them
-abbrev pub made_of : Opcode → Head → ℕ → Ins
-made_of opcode head number = built opcode head (first_of opcode head number) (second_of opcode head number)
 
 -- ---- an instruction's own two bytes
 

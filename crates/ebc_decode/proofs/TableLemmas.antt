@@ -153,7 +153,7 @@ indexed_by width Bits16 h = tt
 indexed_by width Bits32 h = tt
 indexed_by width Bits64 h = quad width h
 
-abbrev listed : Opcode → Bool
+abbrev pub listed : Opcode → Bool
 listed opcodes.Break = true
 listed opcodes.Jump = true
 listed opcodes.ShortJump = true
@@ -173,7 +173,7 @@ listed opcodes.MoveImmediate = true
 listed opcodes.MoveIndex = true
 listed opcodes.MoveRelative = true
 
-is_listed : (opcode : Opcode) → listed opcode ≡ true → IsListed opcode
+pub is_listed : (opcode : Opcode) → listed opcode ≡ true → IsListed opcode
 is_listed opcodes.Break h = tt
 is_listed opcodes.Jump h = tt
 is_listed opcodes.ShortJump h = tt

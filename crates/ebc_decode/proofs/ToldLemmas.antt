@@ -8,8 +8,8 @@ use Rattle.ebc_decode.specs.declared.reading.EncodingFault.{EncodingFault}
 use Rattle.ebc_decode.specs.Bytes.{little}
 use Rattle.ebc_decode.specs.Reading.{IsInstruction, TellsEach, BeginsInstruction, TellsEachLength}
 use Rattle.ebc_decode.specs.ReadingInside.{widths, bytes_if, layout_length, built, head_in, Begins, BeginsOnly}
-use Rattle.ebc_decode.proofs.ReadLemmas.{made_of}
-use Rattle.ebc_decode.proofs.WordLemmas.{head_of, tail_of, held, owned, length_found, length_told, words_told, words_short, words_found}
+use Rattle.ebc_decode.specs.Decoding.{head_of, tail_of, made_of}
+use Rattle.ebc_decode.proofs.WordLemmas.{held, owned, length_found, length_told, words_told, words_short, words_found}
 
 -- ---- lengths
 

@@ -14,7 +14,8 @@ use Rattle.ebc_decode.specs.Lawful.{IsLawful}
 use Rattle.ebc_decode.specs.Reading.{size_of, IsInstruction, TellsEach, BeginsInstruction, TellsEachLength}
 use Rattle.ebc_decode.specs.ReadingInside.{widths, bytes_if, layout_length, built, head_in, Begins, BeginsOnly}
 use Rattle.ebc_decode.proofs.ByteLemmas.{length-little, little-add, fields-little}
-use Rattle.ebc_decode.proofs.ReadLemmas.{made_of, spelled, size_of-spelled, makes}
+use Rattle.ebc_decode.specs.Decoding.{head_of, tail_of, made_of}
+use Rattle.ebc_decode.proofs.ReadLemmas.{spelled, size_of-spelled, makes}
 
 -- what is told, part by part
 told_parts : (told other : Opcode × Layout) (result : Result (Opcode × Layout) EncodingFault)
@@ -119,13 +120,6 @@ two_to_eighteen instruction lawful =
     (omega arith, omega arith)
 
 -- ---- the first n bytes of a number
-
--- the fields of its first two bytes
-abbrev pub head_of : ℕ → Head
-head_of number = head_in (number % 256) (number / 256 % 256)
-
-abbrev pub tail_of : ℕ → ℕ
-tail_of number = number / 256 / 256
 
 -- bytes with which those of a number begin are its own first ones
 record IsFront (n number : ℕ) (front : List ℕ) : Type 0 where

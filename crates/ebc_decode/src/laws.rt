@@ -2,7 +2,7 @@
 ghost use Rattle.std.specs.Prelude.{◌≡◌, Ok};
 ghost use Rattle.ebc_decode.specs.Lawful.{IsLawful};
 ghost use Rattle.ebc_decode.specs.Reading.{size_of};
-ghost use Rattle.ebc_decode.specs.Laws.{OneInstruction, NoneBeginsAnother, HasTwoToEighteen};
+ghost use Rattle.ebc_decode.specs.Laws.{OneInstruction, NoneBeginsAnother, HasTwoToEighteen, BegunIsSpelled, SpelledIsBegun};
 
 use crate::ins::Ins;
 use crate::reading::{EncodingFault, MOST_BYTES, decode};
@@ -22,6 +22,12 @@ pub fn none_begins_another()
 pub fn two_to_eighteen()
     ensures sizes { HasTwoToEighteen }
     ensures most { MOST_BYTES ≡ 18 }
+{}
+
+/// The instruction that bytes begin with is the one with whose spelling they begin, both ways.
+pub fn decoding()
+    ensures found { BegunIsSpelled }
+    ensures only { SpelledIsBegun }
 {}
 
 /// An instruction that was encoded is decoded as it was, with its length.

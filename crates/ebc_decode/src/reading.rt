@@ -2,6 +2,7 @@
 ghost use Rattle.std.specs.Prelude.{◌≡◌, ◌<◌, ◌≤◌, IfOk, length, take, drop};
 ghost use Rattle.ebc_decode.specs.Bytes.{little};
 ghost use Rattle.ebc_decode.specs.Reading.{IsInstruction, TellsEach, BeginsInstruction, TellsEachLength};
+ghost use Rattle.ebc_decode.specs.Decoding.{length_begun, instruction_begun, Tells};
 ghost use Rattle.ebc_decode.specs.ReadingInside.{Begins, BeginsOnly, widths, number_in, number_of};
 
 use crate::head::Head;
@@ -41,6 +42,7 @@ fn begin(head: Head) -> Result<(Opcode, Layout), EncodingFault>
 pub fn length(first: u8, second: u8) -> Result<u8, EncodingFault>
     ensures found { IfOk result (λ n. BeginsInstruction first second n) }
     ensures only { TellsEachLength first second result }
+    ensures value { Tells result (length_begun first second) }
 {
     let (_, layout) = begin(Head::of(first, second))?;
     Ok(layout.length())
@@ -93,6 +95,7 @@ pub fn decode_fetched(bytes: &[u8; MOST_BYTES], n: u8) -> Result<(Ins, u8), Enco
     requires { n ≤ 18 }
     ensures found { IfOk result (λ told. IsInstruction (take n bytes.now) told.0 told.1) }
     ensures only { TellsEach (take n bytes.now) result }
+    ensures value { Tells result (instruction_begun (take n bytes.now)) }
 {
     let third = u16::from_le_bytes([bytes[16], bytes[17]]);
     decode_words(word_at(bytes, 0), word_at(bytes, 8), third, n)

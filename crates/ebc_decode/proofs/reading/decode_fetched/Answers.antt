@@ -3,6 +3,7 @@ use Rattle.ebc_decode.specs.declared.ins.Ins.{Ins}
 use Rattle.ebc_decode.specs.Bytes.{little}
 use Rattle.ebc_decode.specs.Reading.{IsInstruction, TellsEach}
 use Rattle.ebc_decode.specs.ReadingInside.{number_in}
+use Rattle.ebc_decode.proofs.DecodingLemmas.{taken, tells_begun}
 use Rattle.ebc_decode.proofs.FetchLemmas.{fetched}
 use Rattle.ebc_decode.proofs.reading.decode_fetched.Goals as goal
 
@@ -21,3 +22,8 @@ returns-clause-found c =
 pub returns-clause-only : goal.returns-clause-only
 returns-clause-only c =
     subst (λ (bytes : List ℕ). TellsEach bytes c.decode_words.result) (same c) c.decode_words.ensures.only
+
+pub returns-clause-value : goal.returns-clause-value
+returns-clause-value c =
+    tells_begun (take c.args.n c.args.bytes.now) c.decode_words.result (taken c.args.n c.args.bytes.now c.fits-bytes)
+    (returns-clause-found c) (returns-clause-only c)
