@@ -1,5 +1,5 @@
 -- Bytes begin with one expression, or have one fault.
-use Rattle.std.proofs.Common.{◌≡◌, ◌⊎◌, inl, inr, ℕ, ◌+◌, ◌≤◌, if◌then◌else◌, ◌==◌, nat_lt, nat_le, List, [], ◌∷◌, ◌++◌, length, take, get_or, Option, Some, None, Result, Ok, Err, IfOk, IfErr, refl, sym, ap, ◌∙◌, subst, append_assoc, length-append, arith}
+use Rattle.std.proofs.Common.{◌≡◌, ◌⊎◌, inl, inr, ℕ, ◌+◌, ◌≤◌, if◌then◌else◌, ◌==◌, nat_lt, nat_le, List, [], ◌∷◌, ◌++◌, length, take, get_or, Option, Some, None, Result, Ok, Err, OnOk, IfOk, IfErr, refl, sym, ap, ◌∙◌, subst, append_assoc, length-append, arith}
 use Rattle.std.proofs.lemmas.List.{take_at, get_or_at}
 use Rattle.std.proofs.lemmas.Bool.Decides.{nat_tests}
 use Rattle.mm_base.specs.declared.guid.Guid.{Guid}
@@ -14,7 +14,7 @@ use Rattle.mm_base.specs.End.{EndsBy, out_of_memory}
 use Rattle.mm_base.specs.declared.end.End.{End as EndOf}
 use Rattle.mm_base.specs.declared.end.End.TheVariants as ends
 use Rattle.depex.specs.Trees.{Tree, True, False, Push, Not, And, Or, postfix, opcode_of, before_opcode, after_opcode, end_opcode, item_bytes, bytes_of}
-use Rattle.depex.specs.Expressions.{Expression, Condition, Before, After, IsExpression, items_of, IsRefused, StopsAt, HasFaultInside, IsRefusedName, HasFault}
+use Rattle.depex.specs.Expressions.{Expression, Condition, Before, After, IsExpression, BeginsExpression, items_of, IsRefused, StopsAt, HasFaultInside, IsRefusedName, HasFault}
 use Rattle.depex.specs.Building.{tree_on-postfix}
 use Rattle.depex.specs.Keeping.{kept_of, expression_of}
 use Rattle.depex.specs.FindingInside.{IsName, IsKeptOf}
@@ -317,6 +317,25 @@ module _ (bytes : List ℕ) where
     pub told_first : (fault : DepexFault) → HasFault bytes fault
         → (result ≡ Err (ends.Fault fault)) ⊎ (result ≡ Err (ends.NoMemory out_of_memory))
     told_first = verdicts.first_or_end (IsExpression bytes) (HasFault bytes) never_both one_fault result ok err
+
+-- so it is where a reader answers no more than that there is one
+module _ (bytes : List ℕ) (result : Result (Unit {0}) DepexFault) (ok : OnOk result (BeginsExpression bytes))
+    (err : IfErr result (HasFault bytes)) where
+  pub judged_found : BeginsExpression bytes → result ≡ Ok tt
+  judged_found is =
+      verdicts.found (λ _. BeginsExpression bytes) (HasFault bytes) (λ done fault is has. never_both bytes is.0 fault is.1 has)
+      (λ one other a b. refl) result (if_ok result ok) err tt is
+    where
+      if_ok : (result : Result (Unit {0}) DepexFault) → OnOk result (BeginsExpression bytes) → IfOk result (λ _. BeginsExpression bytes)
+      if_ok (Ok done) ok = ok
+      if_ok (Err fault) ok = tt
+
+  pub judged_first : (fault : DepexFault) → HasFault bytes fault → result ≡ Err fault
+  judged_first fault has = by_result result ok err
+    where
+      by_result : (result : Result (Unit {0}) DepexFault) → OnOk result (BeginsExpression bytes) → IfErr result (HasFault bytes) → result ≡ Err fault
+      by_result (Ok done) ok err = absurd (never_both bytes ok.0 fault ok.1 has)
+      by_result (Err other) ok err = ap Err (one_fault bytes other fault err has)
 
 -- what is kept of an expression stands for it
 pub expression_of-kept_of : (expression : Expression) → expression_of (kept_of expression) ≡ expression

@@ -1,6 +1,6 @@
 use Rattle.std.proofs.Common.{ℕ, ◌∷◌, sym, subst}
 use Rattle.depex.specs.FindingInside.{Finds}
-use Rattle.depex.proofs.look.judge.Goals as goal
+use Rattle.depex.proofs.look.classify.Goals as goal
 
 pub returns-in-3 : goal.returns-in-3
 returns-in-3 c =
