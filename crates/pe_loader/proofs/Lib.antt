@@ -1,4 +1,5 @@
 pub mod NumberLemmas
+pub mod Offered
 pub mod HeaderLemmas
 pub mod RangeLemmas
 pub mod SectionLemmas

@@ -1,5 +1,6 @@
 -- What sections tell, as a walk takes them in.
 use Rattle.std.proofs.Common.{◌≡◌, ℕ, Bool, true, false, if◌then◌else◌, ◌==◌, ◌||◌, List, [], ◌∷◌, ◌++◌, Option, Some, None, Result, Ok, Err, IfOk, IfErr, refl, sym, ap, ◌∙◌, subst}
+use Rattle.std.proofs.Math.Bool.{or-false}
 use Rattle.std.specs.List.{list_any, find}
 use Rattle.std.specs.Option.{option_or}
 use Rattle.std.proofs.lemmas.List.Folds.{list_any-append, find-append}
@@ -15,10 +16,6 @@ use Rattle.volume_reader.proofs.SectionWalkLemmas.{Over, over_more, over_end}
 
 -- ---- one section more
 
-or-false : (b : Bool) → (b || false) ≡ b
-or-false true = refl
-or-false false = refl
-
 any_more : (kind : ℕ) (sections : List Section) (section : Section) (others now : Bool)
     → others ≡ list_any (λ (s : Section). s.kind == kind) sections → now ≡ (others || section.kind == kind)
     → now ≡ list_any (λ (s : Section). s.kind == kind) (sections ++ section ∷ [])
@@ -27,7 +24,7 @@ any_more kind sections section others now before is =
     ∙ ap (λ b. list_any (λ (s : Section). s.kind == kind) sections || b) (sym (or-false (section.kind == kind)))
     ∙ sym (list_any-append (λ (s : Section). s.kind == kind) sections (section ∷ []))
 
-first_more : (kind : ℕ) (sections : List Section) (section : Section) (others now : Option Section)
+pub first_more : (kind : ℕ) (sections : List Section) (section : Section) (others now : Option Section)
     → others ≡ find (λ (s : Section). s.kind == kind) sections → now ≡ option_or others (if section.kind == kind then Some section else None)
     → now ≡ find (λ (s : Section). s.kind == kind) (sections ++ section ∷ [])
 first_more kind sections section others now before is =
