@@ -7,3 +7,5 @@ pub mod FormLemmas
 pub mod BlockLemmas
 pub mod ImageLemmas
 pub mod LoadLemmas
+pub mod EntryLemmas
+pub mod LoadedLemmas
