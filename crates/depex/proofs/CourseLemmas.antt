@@ -1,40 +1,42 @@
--- Items one behind another, as a number of operands grows and shrinks over them; two courses over the same bytes are one.
-use Rattle.std.proofs.Common.{◌≡◌, ℕ, suc, ◌+◌, ◌-◌, ◌≤◌, List, [], ◌∷◌, ◌++◌, length, refl, sym, ap, ◌∙◌, subst, append_assoc, arith}
-use Rattle.std.proofs.lemmas.List.{append-nil, append_cancel_left}
+-- Items one after another, as a number of operands grows and shrinks over them; two courses over the same bytes are one.
+use Rattle.std.proofs.Common.{◌≡◌, ℕ, suc, ◌+◌, ◌-◌, ◌≤◌, List, [], ◌∷◌, ◌++◌, length, drop, refl, sym, ap, ◌∙◌, subst, append_assoc, arith}
+use Rattle.std.proofs.lemmas.List.{append-nil, drop_at}
+use Rattle.courses.specs.Courses.{Leads}
+use Rattle.courses.proofs.CourseLemmas.{leads-append}
 use Rattle.depex.specs.declared.item.Item.{Item}
 use Rattle.depex.specs.declared.item.Item.TheVariants as items
 use Rattle.depex.specs.declared.found.Found.{Found}
 use Rattle.depex.specs.declared.found.Found.TheVariants.{End, Next, Refused}
 use Rattle.depex.specs.Trees.{Tree, True, False, Push, Not, And, Or, postfix, need, taken_by, item_bytes, bytes_of, HasGuids}
 use Rattle.depex.specs.Expressions.{items_of, AreOperands}
-use Rattle.depex.specs.FindingInside.{IsWhole, MayStand}
+use Rattle.depex.specs.FindingInside.{IsWhole, MayStand, FindsItem}
 use Rattle.depex.specs.Building.{negated, joined, built, tree_on, built-postfix}
 use Rattle.depex.proofs.SightLemmas.{sight, next_seen}
 
--- ---- courses
+-- ---- courses, by the number of operands
 
--- an item may stand behind so many operands, and is whole
+-- an item may stand after so many operands, and is whole
 pub record Follows (n : ℕ) (item : Item) : Type 0 where
   pub may : MayStand n item
   pub whole : IsWhole item
 
--- items lead from so many operands to so many
-abbrev pub Leads : ℕ → List Item → ℕ → Type 0
-Leads n [] m = n ≡ m
-Leads n (item ∷ items) m = Follows n item × Leads (n - taken_by item + 1) items m
+-- so many there are after it
+abbrev pub counted : ℕ → Item → ℕ
+counted n item = n - taken_by item + 1
 
-pub leads-append : (n : ℕ) (some others : List Item) (m k : ℕ) → Leads n some m → Leads m others k → Leads n (some ++ others) k
-leads-append n [] others m k to on =
-    let P : ℕ → Type 0 = λ n. Leads n others k in
-    subst P (sym to) on
-leads-append n (item ∷ some) others m k to on = (to.0, leads-append (n - taken_by item + 1) some others m k to.1 on)
+-- items lead from so many operands to so many
+abbrev pub ItemsLead : ℕ → List Item → ℕ → Type 0
+ItemsLead n items m = Leads Follows counted n items m
+
+one_after_another : (n : ℕ) (some others : List Item) (m k : ℕ) → ItemsLead n some m → ItemsLead m others k → ItemsLead n (some ++ others) k
+one_after_another n some others m k to on = leads-append Follows counted n some others m k to on
 
 -- one item, to a number that is given
-one_leads : (n : ℕ) (item : Item) (m : ℕ) → Follows n item → n - taken_by item + 1 ≡ m → Leads n (item ∷ []) m
+one_leads : (n : ℕ) (item : Item) (m : ℕ) → Follows n item → n - taken_by item + 1 ≡ m → ItemsLead n (item ∷ []) m
 one_leads n item m follows is = (follows, is)
 
 -- a tree leads to one operand more
-pub tree_leads : (tree : Tree) (n : ℕ) → HasGuids tree → n + need tree ≤ 256 → Leads n (postfix tree) (suc n)
+pub tree_leads : (tree : Tree) (n : ℕ) → HasGuids tree → n + need tree ≤ 256 → ItemsLead n (postfix tree) (suc n)
 tree_leads True n whole room =
     one_leads n items.True (suc n) (record { may = record { enough = omega arith; room = λ _. omega arith }; whole = tt }) (omega arith)
 tree_leads False n whole room =
@@ -42,23 +44,58 @@ tree_leads False n whole room =
 tree_leads (Push guid) n whole room =
     one_leads n (items.Push guid) (suc n) (record { may = record { enough = omega arith; room = λ _. omega arith }; whole = whole }) (omega arith)
 tree_leads (Not of) n whole room =
-    leads-append n (postfix of) (items.Not ∷ []) (suc n) (suc n) (tree_leads of n whole room)
+    one_after_another n (postfix of) (items.Not ∷ []) (suc n) (suc n) (tree_leads of n whole room)
     (one_leads (suc n) items.Not (suc n) (record { may = record { enough = omega arith; room = λ e. absurd (omega arith) }; whole = tt }) (omega arith))
 tree_leads (And left right) n whole room =
-    leads-append n (postfix left) (postfix right ++ items.And ∷ []) (suc n) (suc n) (tree_leads left n whole.0 (omega arith))
-    (leads-append (suc n) (postfix right) (items.And ∷ []) (suc (suc n)) (suc n) (tree_leads right (suc n) whole.1 (omega arith))
+    one_after_another n (postfix left) (postfix right ++ items.And ∷ []) (suc n) (suc n) (tree_leads left n whole.0 (omega arith))
+    (one_after_another (suc n) (postfix right) (items.And ∷ []) (suc (suc n)) (suc n) (tree_leads right (suc n) whole.1 (omega arith))
     (one_leads (suc (suc n)) items.And (suc n) (record { may = record { enough = omega arith; room = λ e. absurd (omega arith) }; whole = tt }) (omega arith)))
 tree_leads (Or left right) n whole room =
-    leads-append n (postfix left) (postfix right ++ items.Or ∷ []) (suc n) (suc n) (tree_leads left n whole.0 (omega arith))
-    (leads-append (suc n) (postfix right) (items.Or ∷ []) (suc (suc n)) (suc n) (tree_leads right (suc n) whole.1 (omega arith))
+    one_after_another n (postfix left) (postfix right ++ items.Or ∷ []) (suc n) (suc n) (tree_leads left n whole.0 (omega arith))
+    (one_after_another (suc n) (postfix right) (items.Or ∷ []) (suc (suc n)) (suc n) (tree_leads right (suc n) whole.1 (omega arith))
     (one_leads (suc (suc n)) items.Or (suc n) (record { may = record { enough = omega arith; room = λ e. absurd (omega arith) }; whole = tt }) (omega arith)))
 
-pub operands_lead : (operands : List Tree) → AreOperands operands → Leads 0 (items_of operands) (length operands)
+pub operands_lead : (operands : List Tree) → AreOperands operands → ItemsLead 0 (items_of operands) (length operands)
 operands_lead [] are = refl
 operands_lead (tree ∷ before) are =
-    leads-append 0 (items_of before) (postfix tree) (length before) (suc (length before)) (operands_lead before are.2) (tree_leads tree (length before) are.0 are.1)
+    one_after_another 0 (items_of before) (postfix tree) (length before) (suc (length before)) (operands_lead before are.2) (tree_leads tree (length before) are.0 are.1)
 
--- ---- one course over the same bytes
+-- ---- courses, by the operands and the bytes
+
+-- a place: so many operands stand in front of it, and the bytes go on so
+abbrev pub Place : Type 0
+Place = ℕ × List ℕ
+
+-- an item is found there
+abbrev pub StandsIn : Place → Item → Type 0
+StandsIn place item = FindsItem place.0 place.1 item
+
+-- and the place after it
+abbrev pub after_item : Place → Item → Place
+after_item place item = (counted place.0 item, drop (length (item_bytes item)) place.1)
+
+-- no item is found there
+abbrev pub Stops : Place → Type 0
+Stops place = (item : Item) → StandsIn place item → ⊥
+
+-- items that lead by their number lead over their bytes
+pub in_bytes : (n : ℕ) (all : List Item) (m : ℕ) (there : List ℕ) → ItemsLead n all m
+    → Leads StandsIn after_item (n, bytes_of all ++ there) all (m, there)
+in_bytes n [] m there leads = λ i. (leads i, there)
+in_bytes n (item ∷ all) m there leads =
+    let front : bytes_of (item ∷ all) ++ there ≡ item_bytes item ++ (bytes_of all ++ there) = append_assoc (item_bytes item) (bytes_of all) there in
+    let rest : drop (length (item_bytes item)) (bytes_of (item ∷ all) ++ there) ≡ bytes_of all ++ there =
+    ap (λ (bytes : List ℕ). drop (length (item_bytes item)) bytes) front ∙ drop_at (item_bytes item) (bytes_of all ++ there) (length (item_bytes item)) refl in
+    let P : List ℕ → Type 0 = λ bytes. Leads StandsIn after_item (counted n item, bytes) all (m, there) in (
+      record { behind = bytes_of all ++ there; begins = front; whole = leads.0.whole; may = leads.0.may },
+      subst P (sym rest) (in_bytes (counted n item) all m there leads.1),
+    )
+
+-- one item is found at a place
+pub one_item : (place : Place) (one other : Item) → StandsIn place one → StandsIn place other → one ≡ other
+one_item place one other a b =
+    let e : Next one ≡ Next other = sym (next_seen place.0 0 place.1 one a) ∙ next_seen place.0 0 place.1 other b in
+    cc
 
 -- An item isn't where a course ends.
 abbrev pub IsStop : Found → Type 0
@@ -66,45 +103,11 @@ IsStop End = Unit {0}
 IsStop (Refused fault) = Unit {0}
 IsStop (Next item) = ⊥
 
--- both courses have the same items, and end with the same operands at the same bytes
-pub record Same (some others : List Item) (one other : List ℕ) (m k : ℕ) : Type 0 where
-  pub items : some ≡ others
-  pub there : one ≡ other
-  pub many : m ≡ k
-
--- where a course stops no item follows
-no_item : (n m at : ℕ) (there : List ℕ) (item : Item) (behind : List ℕ) (stop : Found) → n ≡ m → sight m at there ≡ stop
-    → IsStop stop
-    → there ≡ item_bytes item ++ behind → Follows n item → ⊥
-no_item n m at there item behind stop same seen stops begins follows =
-    let P : ℕ → Type 0 = λ n. Follows n item in
-    let there_follows = subst P same follows in
-    let next = next_seen m at there item (record { behind = behind; begins = begins; whole = there_follows.whole; may = there_follows.may }) in
-    let e : stop ≡ Next item = sym seen ∙ next in
+-- where something else is seen none is found
+pub no_item : (n at : ℕ) (there : List ℕ) (stop : Found) → sight n at there ≡ stop → IsStop stop → Stops (n, there)
+no_item n at there stop seen stops item stands =
+    let e : stop ≡ Next item = sym seen ∙ next_seen n at there item stands in
     subst IsStop e stops
-
-pub one_course : (n : ℕ) (some others : List Item) (one other : List ℕ) (m k at to : ℕ) (stop halt : Found)
-    → Leads n some m → sight m at one ≡ stop → IsStop stop → Leads n others k → sight k to other ≡ halt → IsStop halt
-    → bytes_of some ++ one ≡ bytes_of others ++ other → Same some others one other m k
-one_course n [] [] one other m k at to stop halt a seen stops b met halts e = record { items = refl; there = e; many = sym a ∙ b }
-one_course n [] (item ∷ others) one other m k at to stop halt a seen stops b met halts e =
-    absurd (no_item n m at one item (bytes_of others ++ other) stop a seen stops (e ∙ append_assoc (item_bytes item) (bytes_of others) other) b.0)
-one_course n (item ∷ some) [] one other m k at to stop halt a seen stops b met halts e =
-    absurd (no_item n k to other item (bytes_of some ++ one) halt b met halts (sym e ∙ append_assoc (item_bytes item) (bytes_of some) one) a.0)
-one_course n (item ∷ some) (more ∷ others) one other m k at to stop halt a seen stops b met halts e =
-    let front = append_assoc (item_bytes item) (bytes_of some) one in
-    let back = append_assoc (item_bytes more) (bytes_of others) other in
-    let both : item_bytes item ++ (bytes_of some ++ one) ≡ item_bytes more ++ (bytes_of others ++ other) = sym front ∙ e ∙ back in
-    let there = item_bytes item ++ (bytes_of some ++ one) in
-    let first = next_seen n 0 there item (record { behind = bytes_of some ++ one; begins = refl; whole = a.0.whole; may = a.0.may }) in
-    let second = next_seen n 0 there more (record { behind = bytes_of others ++ other; begins = both; whole = b.0.whole; may = b.0.may }) in
-    let found : Next item ≡ Next more = sym first ∙ second in
-    let same : item ≡ more = cc in
-    let P : Item → Type 0 = λ i. item_bytes item ++ (bytes_of some ++ one) ≡ item_bytes i ++ (bytes_of others ++ other) in
-    let Q : Item → Type 0 = λ i. Leads (n - taken_by i + 1) others k in
-    let rest = one_course (n - taken_by item + 1) some others one other m k at to stop halt a.1 seen stops (subst Q (sym same) b.1) met halts
-    (append_cancel_left (item_bytes item) (bytes_of some ++ one) (bytes_of others ++ other) (subst P (sym same) both)) in
-    record { items = λ i. same i ∷ rest.items i; there = rest.there; many = rest.many }
 
 -- ---- the tree that items are those of
 

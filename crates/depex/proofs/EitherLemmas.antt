@@ -14,7 +14,9 @@ use Rattle.depex.specs.Expressions.{Expression, Condition, Before, After, spelle
 use Rattle.depex.specs.FindingInside.{IsWhole, Finds, IsName}
 use Rattle.depex.proofs.WalkLemmas.{stand_more, few_operands, none_first, ends_condition, name_is, before_is, after_is}
 use Rattle.depex.proofs.SightLemmas.{ended, judged, sight}
-use Rattle.depex.proofs.LawLemmas.{IsVerdict, NamesNone}
+use Rattle.courses.proofs.MeasureLemmas.{by_measure}
+use Rattle.courses.proofs.VerdictLemmas.{told}
+use Rattle.depex.proofs.LawLemmas.{IsVerdictOf, NamesNone}
 
 -- ---- what is seen at a place is found there
 
@@ -81,7 +83,7 @@ found_there n at (opcode ∷ behind) room none first = judged_found n at behind 
 -- ---- the course over the bytes
 
 abbrev Verdict : List ℕ → Type 0
-Verdict bytes = (verdict : Result Expression DepexFault) × IsVerdict bytes verdict
+Verdict bytes = (verdict : Result Expression DepexFault) × IsVerdictOf bytes verdict
 
 names_there : (bytes : List ℕ) (operands : List Tree) (at : ℕ) (there : List ℕ) → StandsBehind bytes operands at there
     → NamesNone bytes → at ≡ 0 → NamesNone there
@@ -107,14 +109,23 @@ by_found bytes operands at there (Next item) stands finds on =
     on grown.to (at + (1 + length (guid_of item))) finds.behind grown.stands
     (omega (arith, ap length finds.begins, length-append (item_bytes item) finds.behind))
 
-course : (fuel : ℕ) (bytes : List ℕ) (operands : List Tree) (at : ℕ) (there : List ℕ)
-    → StandsBehind bytes operands at there → NamesNone bytes
-    → length there < fuel → Verdict bytes
-course zero bytes operands at there stands names less = absurd (omega arith)
-course (suc fuel) bytes operands at there stands names less =
-    let finds = found_there (length operands) at there (few_operands operands stands.are) (λ none. none_first operands at none stands.place) (names_there bytes operands at there stands names) in
-    by_found bytes operands at there (sight (length operands) at there) stands finds
-    (λ more next behind there_stands fewer. course fuel bytes more next behind there_stands names (omega arith))
+-- where operands end, and how the bytes go on there
+record StandsSomewhere (bytes : List ℕ) : Type 0 where
+  pub operands : List Tree
+  pub at : ℕ
+  pub there : List ℕ
+  pub stands : StandsBehind bytes operands at there
+
+course : (bytes : List ℕ) → NamesNone bytes → StandsSomewhere bytes → Verdict bytes
+course bytes names = by_measure (λ place. Verdict bytes) (λ (place : StandsSomewhere bytes). length place.there) step
+  where
+    step : (place : StandsSomewhere bytes) → ((other : StandsSomewhere bytes) → length other.there < length place.there → Verdict bytes) → Verdict bytes
+    step place rest =
+        let n = length place.operands in
+        let finds = found_there n place.at place.there (few_operands place.operands place.stands.are)
+        (λ none. none_first place.operands place.at none place.stands.place) (names_there bytes place.operands place.at place.there place.stands names) in
+        by_found bytes place.operands place.at place.there (sight n place.at place.there) place.stands finds
+        (λ more next behind stands fewer. rest (record { operands = more; at = next; there = behind; stands = stands }) fewer)
 
 -- ---- a name
 
@@ -150,7 +161,7 @@ by_name opcode behind false false false low lacks ends is = (
 
 verdict_from : (bytes : List ℕ) → NamesNone bytes → Verdict bytes
 verdict_from bytes names =
-    course (suc (length bytes)) bytes [] 0 bytes (record { begins = refl; place = refl; are = tt }) names (omega arith)
+    course bytes names (record { operands = []; at = 0; there = bytes; stands = record { begins = refl; place = refl; are = tt } })
 
 by_first : (opcode : ℕ) (behind : List ℕ) (low : Bool) → nat_le opcode after_opcode ≡ low → Verdict (opcode ∷ behind)
 by_first opcode behind true is =
@@ -167,11 +178,7 @@ verdict (opcode ∷ behind) = by_first opcode behind (nat_le opcode after_opcode
 
 pub either : (bytes : List ℕ)
     → ((expression : Expression) × IsExpression bytes expression) ⊎ ((fault : DepexFault) × HasFault bytes fault)
-either bytes = told (verdict bytes)
-  where
-    told : Verdict bytes → ((expression : Expression) × IsExpression bytes expression) ⊎ ((fault : DepexFault) × HasFault bytes fault)
-    told (Ok expression, is) = inl (expression, is)
-    told (Err fault, is) = inr (fault, is)
+either bytes = told (IsExpression bytes) (HasFault bytes) (verdict bytes).0 (verdict bytes).1
 
 pub same_with_more : (bytes more : List ℕ) (expression : Expression) → IsExpression bytes expression → IsExpression (bytes ++ more) expression
 same_with_more bytes more expression is = record {

@@ -1,5 +1,5 @@
 -- Bytes begin with one expression, or have one fault.
-use Rattle.std.proofs.Common.{◌≡◌, ◌⊎◌, inl, inr, ℕ, ◌+◌, ◌≤◌, if◌then◌else◌, ◌==◌, nat_lt, nat_le, List, [], ◌∷◌, ◌++◌, length, take, get_or, Option, Some, None, Result, Ok, Err, IfOk, IfErr, refl, sym, ap, ◌∙◌, subst, append_assoc, length-append, arith}
+use Rattle.std.proofs.Common.{◌≡◌, ◌⊎◌, inl, inr, ℕ, ◌+◌, ◌≤◌, if◌then◌else◌, ◌==◌, nat_lt, nat_le, List, [], ◌∷◌, ◌++◌, length, take, get_or, Option, Some, None, Result, Ok, Err, OnOk, IfOk, IfErr, refl, sym, ap, ◌∙◌, subst, append_assoc, length-append, arith}
 use Rattle.std.proofs.lemmas.List.{take_at, get_or_at}
 use Rattle.std.proofs.lemmas.Bool.Decides.{nat_tests}
 use Rattle.mm_base.specs.declared.guid.Guid.{Guid}
@@ -14,18 +14,21 @@ use Rattle.mm_base.specs.End.{EndsBy, out_of_memory}
 use Rattle.mm_base.specs.declared.end.End.{End as EndOf}
 use Rattle.mm_base.specs.declared.end.End.TheVariants as ends
 use Rattle.depex.specs.Trees.{Tree, True, False, Push, Not, And, Or, postfix, opcode_of, before_opcode, after_opcode, end_opcode, item_bytes, bytes_of}
-use Rattle.depex.specs.Expressions.{Expression, Condition, Before, After, IsExpression, items_of, IsRefused, StopsAt, HasFaultInside, IsRefusedName, HasFault}
+use Rattle.depex.specs.Expressions.{Expression, Condition, Before, After, IsExpression, BeginsExpression, items_of, IsRefused, StopsAt, HasFaultInside, IsRefusedName, HasFault}
 use Rattle.depex.specs.Building.{tree_on-postfix}
 use Rattle.depex.specs.Keeping.{kept_of, expression_of}
 use Rattle.depex.specs.FindingInside.{IsName, IsKeptOf}
 use Rattle.depex.proofs.SightLemmas.{sight, stops_seen}
-use Rattle.depex.proofs.CourseLemmas.{Leads, IsStop, tree_leads, operands_lead, one_course, one_tree}
+use Rattle.courses.specs.Courses.{Leads}
+use Rattle.courses.specs.Verdicts.{IsVerdict}
+use Rattle.courses.proofs.CourseLemmas.{one_course}
+use Rattle.courses.proofs.VerdictLemmas as verdicts
+use Rattle.depex.proofs.CourseLemmas.{ItemsLead, StandsIn, after_item, Stops, IsStop, tree_leads, operands_lead, in_bytes, one_item, no_item, one_tree}
 
 -- ---- what bytes come to: an expression or a fault
 
-abbrev pub IsVerdict : List ℕ → Result Expression DepexFault → Type 0
-IsVerdict bytes (Ok expression) = IsExpression bytes expression
-IsVerdict bytes (Err fault) = HasFault bytes fault
+abbrev pub IsVerdictOf : List ℕ → Result Expression DepexFault → Type 0
+IsVerdictOf bytes verdict = IsVerdict (IsExpression bytes) (HasFault bytes) verdict
 
 -- ---- conditions, and faults inside of them
 
@@ -46,7 +49,7 @@ record Inside (bytes : List ℕ) (verdict : Result Expression DepexFault) : Type
   pub many : ℕ
   pub there : List ℕ
   pub stop : Found
-  pub leads : Leads 0 all many
+  pub leads : ItemsLead 0 all many
   pub begins : bytes ≡ bytes_of all ++ there
   pub seen : sight many (length (bytes_of all)) there ≡ stop
   pub stops : IsStop stop
@@ -169,7 +172,7 @@ inside_fault bytes fault has =
       names = subst P (sym has.stands.begins) (fault_names all n has.at has.there fault has.stands.place has.stops);
     }
 
-of_a_kind : (bytes : List ℕ) (verdict : Result Expression DepexFault) → IsVerdict bytes verdict
+of_a_kind : (bytes : List ℕ) (verdict : Result Expression DepexFault) → IsVerdictOf bytes verdict
     → Inside bytes verdict ⊎ Naming bytes verdict
 of_a_kind bytes (Ok (Condition tree)) is = inl (inside_condition bytes tree is)
 of_a_kind bytes (Ok (Before guid)) is = inr (record {
@@ -259,13 +262,22 @@ named_once opcode behind (Err f) (Err g) p q =
     let same : f ≡ g = cc in
     ap Err same
 
+-- its course over the bytes
+inside_course : (bytes : List ℕ) (verdict : Result Expression DepexFault) (inside : Inside bytes verdict)
+    → Leads StandsIn after_item (0, bytes) inside.all (inside.many, inside.there)
+inside_course bytes verdict inside =
+    let P : List ℕ → Type 0 = λ bytes. Leads StandsIn after_item (0, bytes) inside.all (inside.many, inside.there) in
+    subst P (sym inside.begins) (in_bytes 0 inside.all inside.many inside.there inside.leads)
+
 one_of_a_kind : (bytes : List ℕ) (one other : Result Expression DepexFault) → Inside bytes one ⊎ Naming bytes one
     → Inside bytes other ⊎ Naming bytes other
     → one ≡ other
 one_of_a_kind bytes one other (inl a) (inl b) =
-    let same = one_course 0 a.all b.all a.there b.there a.many b.many (length (bytes_of a.all)) (length (bytes_of b.all)) a.stop b.stop
-    a.leads a.seen a.stops b.leads b.seen b.stops (sym a.begins ∙ b.begins) in
-    let stop : a.stop ≡ b.stop = sym a.seen ∙ (λ i. sight (same.many i) (length (bytes_of (same.items i))) (same.there i)) ∙ b.seen in
+    let same = one_course StandsIn after_item Stops one_item (λ place item stops stands. stops item stands) (0, bytes) a.all b.all (a.many, a.there) (b.many, b.there)
+    (inside_course bytes one a) (no_item a.many (length (bytes_of a.all)) a.there a.stop a.seen a.stops)
+    (inside_course bytes other b) (no_item b.many (length (bytes_of b.all)) b.there b.stop b.seen b.stops) in
+    let stop : a.stop ≡ b.stop =
+    sym a.seen ∙ (λ i. sight (same.ends i).0 (length (bytes_of (same.items i))) (same.ends i).1) ∙ b.seen in
     let P : List Item → Type 0 = λ all. Tells all b.stop one in
     let Q : Found → Type 0 = λ stop. Tells a.all stop one in
     told_once b.all b.stop one other (subst P same.items (subst Q stop a.tells)) b.tells
@@ -279,36 +291,51 @@ one_of_a_kind bytes one other (inr a) (inr b) =
     let Q : List ℕ → Type 0 = λ behind. Names a.opcode behind one in
     named_once b.opcode b.behind one other (subst P opcodes (subst Q rests a.names)) b.names
 
-pub one_verdict : (bytes : List ℕ) (one other : Result Expression DepexFault) → IsVerdict bytes one
-    → IsVerdict bytes other → one ≡ other
+pub one_verdict : (bytes : List ℕ) (one other : Result Expression DepexFault) → IsVerdictOf bytes one
+    → IsVerdictOf bytes other → one ≡ other
 one_verdict bytes one other a b = one_of_a_kind bytes one other (of_a_kind bytes one a) (of_a_kind bytes other b)
 
 -- ---- the laws
 
-pub never_both : (bytes : List ℕ) (expression : Expression) (fault : DepexFault) → IsExpression bytes expression
-    → HasFault bytes fault → ⊥
-never_both bytes expression fault is has = let e : Ok expression ≡ Err fault = one_verdict bytes (Ok expression) (Err fault) is has in cc
+module _ (bytes : List ℕ) where
+  pub never_both : (expression : Expression) (fault : DepexFault) → IsExpression bytes expression → HasFault bytes fault → ⊥
+  never_both = verdicts.never_both (IsExpression bytes) (HasFault bytes) (one_verdict bytes)
 
-pub one_expression : (bytes : List ℕ) (one other : Expression) → IsExpression bytes one → IsExpression bytes other → one ≡ other
-one_expression bytes one other a b = let e : Ok one ≡ Ok other = one_verdict bytes (Ok one) (Ok other) a b in cc
+  pub one_expression : (one other : Expression) → IsExpression bytes one → IsExpression bytes other → one ≡ other
+  one_expression = verdicts.one_value (IsExpression bytes) (HasFault bytes) (one_verdict bytes)
 
-pub one_fault : (bytes : List ℕ) (one other : DepexFault) → HasFault bytes one → HasFault bytes other → one ≡ other
-one_fault bytes one other a b = let e : Err one ≡ Err other = one_verdict bytes (Err one) (Err other) a b in cc
+  pub one_fault : (one other : DepexFault) → HasFault bytes one → HasFault bytes other → one ≡ other
+  one_fault = verdicts.one_fault (IsExpression bytes) (HasFault bytes) (one_verdict bytes)
 
--- what a reader answers is the expression, or the fault, that the bytes come to
-pub told_found : (bytes : List ℕ) (result : Result Expression (EndOf DepexFault)) → IfOk result (IsExpression bytes)
-    → IfErr result (EndsBy (HasFault bytes))
-    → (expression : Expression) → IsExpression bytes expression → (result ≡ Ok expression) ⊎ (result ≡ Err (ends.NoMemory out_of_memory))
-told_found bytes (Ok other) ok err expression is = inl (ap (λ (e : Expression). Ok e) (one_expression bytes other expression ok is))
-told_found bytes (Err (ends.Fault fault)) ok err expression is = absurd (never_both bytes expression fault is err)
-told_found bytes (Err (ends.NoMemory refused)) ok err expression is = inr refl
+  -- what a reader answers is the expression, or the fault, that the bytes come to
+  module _ (result : Result Expression (EndOf DepexFault)) (ok : IfOk result (IsExpression bytes))
+      (err : IfErr result (EndsBy (HasFault bytes))) where
+    pub told_found : (expression : Expression) → IsExpression bytes expression
+        → (result ≡ Ok expression) ⊎ (result ≡ Err (ends.NoMemory out_of_memory))
+    told_found = verdicts.found_or_end (IsExpression bytes) (HasFault bytes) never_both one_expression result ok err
 
-pub told_first : (bytes : List ℕ) (result : Result Expression (EndOf DepexFault)) → IfOk result (IsExpression bytes)
-    → IfErr result (EndsBy (HasFault bytes))
-    → (fault : DepexFault) → HasFault bytes fault → (result ≡ Err (ends.Fault fault)) ⊎ (result ≡ Err (ends.NoMemory out_of_memory))
-told_first bytes (Ok expression) ok err fault has = absurd (never_both bytes expression fault ok has)
-told_first bytes (Err (ends.Fault other)) ok err fault has = inl (ap (λ f. Err (ends.Fault f)) (one_fault bytes other fault err has))
-told_first bytes (Err (ends.NoMemory refused)) ok err fault has = inr refl
+    pub told_first : (fault : DepexFault) → HasFault bytes fault
+        → (result ≡ Err (ends.Fault fault)) ⊎ (result ≡ Err (ends.NoMemory out_of_memory))
+    told_first = verdicts.first_or_end (IsExpression bytes) (HasFault bytes) never_both one_fault result ok err
+
+-- so it is where a reader answers no more than that there is one
+module _ (bytes : List ℕ) (result : Result (Unit {0}) DepexFault) (ok : OnOk result (BeginsExpression bytes))
+    (err : IfErr result (HasFault bytes)) where
+  pub judged_found : BeginsExpression bytes → result ≡ Ok tt
+  judged_found is =
+      verdicts.found (λ _. BeginsExpression bytes) (HasFault bytes) (λ done fault is has. never_both bytes is.0 fault is.1 has)
+      (λ one other a b. refl) result (if_ok result ok) err tt is
+    where
+      if_ok : (result : Result (Unit {0}) DepexFault) → OnOk result (BeginsExpression bytes) → IfOk result (λ _. BeginsExpression bytes)
+      if_ok (Ok done) ok = ok
+      if_ok (Err fault) ok = tt
+
+  pub judged_first : (fault : DepexFault) → HasFault bytes fault → result ≡ Err fault
+  judged_first fault has = by_result result ok err
+    where
+      by_result : (result : Result (Unit {0}) DepexFault) → OnOk result (BeginsExpression bytes) → IfErr result (HasFault bytes) → result ≡ Err fault
+      by_result (Ok done) ok err = absurd (never_both bytes ok.0 fault ok.1 has)
+      by_result (Err other) ok err = ap Err (one_fault bytes other fault err has)
 
 -- what is kept of an expression stands for it
 pub expression_of-kept_of : (expression : Expression) → expression_of (kept_of expression) ≡ expression

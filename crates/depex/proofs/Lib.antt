@@ -2,5 +2,6 @@ pub mod WalkLemmas
 pub mod SightLemmas
 pub mod CourseLemmas
 pub mod LawLemmas
+pub mod Offered
 pub mod WorkLemmas
 pub mod EitherLemmas

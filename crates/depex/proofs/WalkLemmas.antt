@@ -1,5 +1,6 @@
 -- Operands that stand one behind another, and one item more.
-use Rattle.std.proofs.Common.{◌≡◌, ℕ, suc, get_or, drop-cons, ◌+◌, ◌-◌, ◌<◌, ◌≤◌, List, [], ◌∷◌, ◌++◌, length, take, drop, refl, sym, ap, ◌∙◌, subst, append_assoc, length-append, arith}
+use Rattle.std.specs.Option.{is_some}
+use Rattle.std.proofs.Common.{inl, inr, true, false, Option, Some, None, Result, Ok, Err, OnOk, length-drop, ◌≡◌, ℕ, suc, get_or, drop-cons, ◌+◌, ◌-◌, ◌<◌, ◌≤◌, List, [], ◌∷◌, ◌++◌, length, take, drop, refl, sym, ap, ◌∙◌, subst, append_assoc, length-append, arith}
 use Rattle.std.proofs.lemmas.List.{append-nil, drop_at, take_all, take-append-drop}
 use Rattle.std.proofs.lemmas.List.Concat.{flat_map-append}
 use Rattle.depex.specs.declared.item.Item.{Item}
@@ -7,8 +8,10 @@ use Rattle.depex.specs.declared.item.Item.TheVariants as items
 use Rattle.depex.specs.Trees.{Tree, True, False, Push, Not, And, Or, postfix, need, taken_by, guid_of, item_bytes, bytes_of, before_opcode, after_opcode, end_opcode}
 use Rattle.mm_base.specs.declared.guid.Guid.{Guid}
 use Rattle.mm_base.specs.declared.expression.DepexFault.{DepexFault}
-use Rattle.depex.specs.Expressions.{Before, After, IsExpression, items_of, AreOperands, StandsBehind, StopsAt, HasFaultInside}
-use Rattle.depex.specs.FindingInside.{IsWhole, MayStand, FindsItem, EndsAt, IsCondition, IsName}
+use Rattle.depex.specs.WalkInside.{WalkState, IsNear, walk_of, bytes_left, walk_after, Gives}
+use Rattle.std.proofs.lemmas.Bool.{cases_eq}
+use Rattle.depex.specs.Expressions.{Condition, Before, After, IsExpression, BeginsExpression, items_of, AreOperands, StandsBehind, StopsAt, HasFaultInside}
+use Rattle.depex.specs.FindingInside.{IsWhole, MayStand, FindsItem, EndsAt, IsCondition, IsName, BeginsName}
 
 -- the bytes of items and one more
 pub bytes_of-push : (some : List Item) (item : Item) → bytes_of (some ++ item ∷ []) ≡ bytes_of some ++ item_bytes item
@@ -114,61 +117,112 @@ ends_condition bytes (tree ∷ []) at (opcode ∷ behind) stands ends =
       refl,
     )
 
--- how far a reader has come
-pub record Walked (bytes : List ℕ) (read : List Item) (count at : ℕ) : Type 0 where
-  pub operands : List Tree
-  pub stands : StandsBehind bytes operands at (drop at bytes)
-  pub items : read ≡ items_of operands
-  pub many : count ≡ length operands
+-- how far a walk has come: over these items, which are those of whole operands
+pub record Walked (read : List Item) (walk : WalkState) : Type 0 where
+  pub trees : List Tree
+  pub stands : StandsBehind walk.bytes trees walk.at (bytes_left walk)
+  pub items : read ≡ items_of trees
+  pub many : walk.operands ≡ length trees
 
-pub walked_none : (bytes : List ℕ) → Walked bytes [] 0 0
-walked_none bytes = record { operands = []; stands = record { begins = refl; place = refl; are = tt }; items = refl; many = refl }
+pub walked_none : (bytes : List ℕ) → Walked [] (walk_of bytes)
+walked_none bytes = record { trees = []; stands = record { begins = refl; place = refl; are = tt }; items = refl; many = refl }
 
-pub walked_more : (bytes : List ℕ) (read : List Item) (count at : ℕ) (item : Item) → Walked bytes read count at
-    → FindsItem count (drop at bytes) item → Walked bytes (read ++ item ∷ []) (count - taken_by item + 1) (at + (1 + length (guid_of item)))
-walked_more bytes read count at item walked found =
-    let P : ℕ → Type 0 = λ count. FindsItem count (drop at bytes) item in
-    let grown = stand_more bytes walked.operands at (drop at bytes) item walked.stands (subst P walked.many found) in
-    let next : ℕ = at + (1 + length (guid_of item)) in
-    let Q : List ℕ → Type 0 = λ there. StandsBehind bytes grown.to next there in
+pub walked_more : (read : List Item) (walk : WalkState) (item : Item) → Walked read walk
+    → FindsItem walk.operands (bytes_left walk) item → Walked (read ++ item ∷ []) (walk_after walk item)
+walked_more read walk item walked found =
+    let P : ℕ → Type 0 = λ count. FindsItem count (bytes_left walk) item in
+    let grown = stand_more walk.bytes walked.trees walk.at (bytes_left walk) item walked.stands (subst P walked.many found) in
+    let next : ℕ = walk.at + (1 + length (guid_of item)) in
+    let Q : List ℕ → Type 0 = λ there. StandsBehind walk.bytes grown.to next there in
     record {
-      operands = grown.to;
-      stands = subst Q (sym (there_is bytes grown.to next _ grown.stands)) grown.stands;
+      trees = grown.to;
+      stands = subst Q (sym (there_is walk.bytes grown.to next _ grown.stands)) grown.stands;
       items = ap (λ (all : List Item). all ++ item ∷ []) walked.items ∙ sym grown.items;
       many = omega (arith, walked.many, grown.count);
     }
 
-pub walked_ends : (bytes : List ℕ) (read : List Item) (count at : ℕ) → Walked bytes read count at
-    → EndsAt count (drop at bytes) → IsCondition bytes read
-walked_ends bytes read count at walked ends =
-    let P : ℕ → Type 0 = λ count. EndsAt count (drop at bytes) in
-    let Q : List Item → Type 0 = λ read. IsCondition bytes read in
-    subst Q (sym walked.items) (ends_condition bytes walked.operands at (drop at bytes) walked.stands (subst P walked.many ends))
+pub walked_ends : (read : List Item) (walk : WalkState) → Walked read walk → EndsAt walk.operands (bytes_left walk) → IsCondition walk.bytes read
+walked_ends read walk walked ends =
+    let P : ℕ → Type 0 = λ count. EndsAt count (bytes_left walk) in
+    let Q : List Item → Type 0 = λ read. IsCondition walk.bytes read in
+    subst Q (sym walked.items) (ends_condition walk.bytes walked.trees walk.at (bytes_left walk) walked.stands (subst P walked.many ends))
 
-pub walked_stops : (bytes : List ℕ) (read : List Item) (count at : ℕ) (fault : DepexFault) → Walked bytes read count at
-    → StopsAt count at (drop at bytes) fault
-    → HasFaultInside bytes fault
-walked_stops bytes read count at fault walked stops =
-    let P : ℕ → Type 0 = λ count. StopsAt count at (drop at bytes) fault in
-    record { operands = walked.operands; at = at; there = drop at bytes; stands = walked.stands; stops = subst P walked.many stops }
+pub walked_stops : (read : List Item) (walk : WalkState) (fault : DepexFault) → Walked read walk
+    → StopsAt walk.operands walk.at (bytes_left walk) fault → HasFaultInside walk.bytes fault
+walked_stops read walk fault walked stops =
+    let P : ℕ → Type 0 = λ count. StopsAt count walk.at (bytes_left walk) fault in
+    record { operands = walked.trees; at = walk.at; there = bytes_left walk; stands = walked.stands; stops = subst P walked.many stops }
+
+-- what a walk gives
+module _ (bytes : List ℕ) (walk after : WalkState) (read : List Item) (item : Item) (given : Option Item) (same : walk.bytes ≡ bytes)
+    (walked : Walked read walk) (gives : Gives walk (Ok given) after) where
+  pub takes_more : given ≡ Some item → (after.bytes ≡ bytes) × Walked (read ++ item ∷ []) after
+  takes_more is =
+      let P : Option Item → Type 0 = λ given. Gives walk (Ok given) after in
+      let there : Gives walk (Ok (Some item)) after = subst P is gives in (
+        ap (λ (w : WalkState). w.bytes) there.1 ∙ same,
+        subst (Walked (read ++ item ∷ [])) (sym there.1) (walked_more read walk item walked there.0),
+      )
+
+module _ (bytes : List ℕ) (walk after : WalkState) (read : List Item) (given : Option Item) (same : walk.bytes ≡ bytes)
+    (walked : Walked read walk) (gives : Gives walk (Ok given) after) where
+  pub ends_at : given ≡ None → IsCondition bytes read
+  ends_at is =
+      let P : Option Item → Type 0 = λ given. Gives walk (Ok given) after in
+      let Q : List ℕ → Type 0 = λ bytes. IsCondition bytes read in
+      let there : Gives walk (Ok None) after = subst P is gives in
+      subst Q same (walked_ends read walk walked there.0)
+
+-- a walk that has come somewhere
+pub record Underway (walk : WalkState) : Type 0 where
+  pub read : List Item
+  pub walked : Walked read walk
+
+pub underway_none : (bytes : List ℕ) → Underway (walk_of bytes)
+underway_none bytes = record { read = []; walked = walked_none bytes }
+
+-- whether it gives one more item tells whether it goes on
+module _ (bytes : List ℕ) (walk after : WalkState) (same : walk.bytes ≡ bytes) (under : Underway walk) where
+  same_bytes : (item : Item) → after ≡ walk_after walk item → after.bytes ≡ bytes
+  same_bytes item is = ap (λ (w : WalkState). w.bytes) is ∙ same
+
+  pub goes_on : (given : Option Item) → is_some given ≡ true → Gives walk (Ok given) after → (after.bytes ≡ bytes) × Underway after
+  goes_on None is gives = let wrong : false ≡ true = is in cc
+  goes_on (Some item) is gives = (
+    same_bytes item gives.1,
+    subst Underway (sym gives.1) (record { read = under.read ++ item ∷ []; walked = walked_more under.read walk item under.walked gives.0 }),
+  )
+
+  pub comes_to_end : (given : Option Item) → is_some given ≡ false → Gives walk (Ok given) after → BeginsExpression bytes
+  comes_to_end None is gives =
+      let condition = walked_ends under.read walk under.walked gives.0 in
+      subst BeginsExpression same (Condition condition.0, condition.1)
+  comes_to_end (Some item) is gives = let wrong : true ≡ false = is in cc
+
+-- an item lies in the bytes
+pub item_within : (walk : WalkState) (item : Item) → FindsItem walk.operands (bytes_left walk) item
+    → walk.at + (1 + length (guid_of item)) ≤ length walk.bytes
+item_within walk item found =
+    omega (arith, ap length found.begins, length-drop walk.at walk.bytes, length-append (item_bytes item) found.behind)
+
+-- the numbers of a walk stay small
+pub near_more : (bytes : List ℕ) (at count : ℕ) (item : Item) (takes len : ℕ) → IsNear bytes at count → FindsItem count (drop at bytes) item
+    → takes ≡ taken_by item → len ≡ 1 + length (guid_of item) → IsNear bytes (at + len) (count - takes + 1)
+near_more bytes at count item takes len near found taken long = record {
+  few = near.few;
+  first = near.first;
+  within = omega (arith, item_within (record { bytes = bytes; at = at; operands = count }) item found, long);
+  room = elim (cases_eq takes 0) [
+    | inl none ↦ omega (arith, found.may.room (sym taken ∙ none))
+    | inr some ↦ omega (arith, found.may.enough, near.room, taken)
+  ];
+  none = λ e. absurd (omega arith);
+}
 
 -- where no operand stands is the first place
 pub none_first : (operands : List Tree) (at : ℕ) → length operands ≡ 0 → at ≡ length (bytes_of (items_of operands)) → at ≡ 0
 none_first [] at none place = place
 none_first (_ ∷ before) at none place = absurd (omega (arith, none))
-
--- its numbers stay small
-pub record IsNear (bytes : List ℕ) (count at : ℕ) : Type 0 where
-  pub within : at ≤ length bytes
-  pub room : count ≤ 256
-  pub none : count ≡ 0 → at ≡ 0
-
-pub walked_near : (bytes : List ℕ) (read : List Item) (count at : ℕ) → Walked bytes read count at → IsNear bytes count at
-walked_near bytes read count at walked = record {
-  within = omega (arith, walked.stands.place, ap length walked.stands.begins, length-append (bytes_of (items_of walked.operands)) (drop at bytes));
-  room = omega (arith, few_operands walked.operands walked.stands.are, walked.many);
-  none = λ zero. none_first walked.operands at (omega (arith, walked.many)) walked.stands.place;
-}
 
 -- ---- names of drivers
 
@@ -203,3 +257,14 @@ after_is bytes behind guid first name = record {
   begins = first ∙ ap (λ (xs : List ℕ). after_opcode ∷ xs) (name.begins ∙ sym (append_assoc guid.0 (end_opcode ∷ []) name.rest));
   sound = name.whole;
 }
+
+-- a name after BEFORE or AFTER is an expression
+pub begins_before : (bytes behind : List ℕ) (result : Result (Unit {0}) DepexFault) → bytes ≡ before_opcode ∷ behind
+    → OnOk result (BeginsName behind) → OnOk result (BeginsExpression bytes)
+begins_before bytes behind (Ok done) first name = (Before name.0, before_is bytes behind name.0 first name.1)
+begins_before bytes behind (Err fault) first name = tt
+
+pub begins_after : (bytes behind : List ℕ) (result : Result (Unit {0}) DepexFault) → bytes ≡ after_opcode ∷ behind
+    → OnOk result (BeginsName behind) → OnOk result (BeginsExpression bytes)
+begins_after bytes behind (Ok done) first name = (After name.0, after_is bytes behind name.0 first name.1)
+begins_after bytes behind (Err fault) first name = tt

@@ -12,7 +12,7 @@ use Rattle.depex.specs.Keeping.{expression_of, IsKept}
 use Rattle.depex.specs.Meaning.{holds_on}
 use Rattle.depex.specs.FindingInside.{MayStand}
 use Rattle.depex.specs.WorkingInside.{AreItems, Works}
-use Rattle.depex.proofs.CourseLemmas.{Leads, tree_leads}
+use Rattle.depex.proofs.CourseLemmas.{ItemsLead, tree_leads}
 
 -- items lead from these truth values to those
 abbrev pub Reaches : (Guid → Bool) → List Item → List Bool → List Bool → Type 0
@@ -84,12 +84,12 @@ works_many has items.Or old new works = omega (arith, ap length works.3, ap leng
 
 -- how far the items of a condition are worked off: these are left, with these truth values so far
 pub record Working (has : Guid → Bool) (all : List Item) (left : List Item) (values : List Bool) : Type 0 where
-  pub leads : Leads (length values) left 1
+  pub leads : ItemsLead (length values) left 1
   pub reaches : (tree : Tree) → all ≡ postfix tree → Reaches has left values (truth has tree ∷ [])
 
 pub working_none : (has : Guid → Bool) (all : List Item) → AreItems all → Working has all all []
 working_none has all are =
-    let P : List Item → Type 0 = λ all. Leads 0 all 1 in
+    let P : List Item → Type 0 = λ all. ItemsLead 0 all 1 in
     record {
       leads = subst P (sym are.3) (tree_leads are.0 0 are.1 (omega (arith, are.2)));
       reaches = λ tree is.
@@ -106,7 +106,7 @@ pub working_more : (has : Guid → Bool) (all : List Item) (item : Item) (left :
     → Working has all (item ∷ left) values
     → Works has item values new → Working has all left new
 working_more has all item left values new working works =
-    let P : ℕ → Type 0 = λ n. Leads n left 1 in
+    let P : ℕ → Type 0 = λ n. ItemsLead n left 1 in
     record {
       leads = subst P (sym (works_many has item values new works)) working.leads.1;
       reaches = λ tree is.

@@ -30,6 +30,10 @@ pub record IsExpression (bytes : List ℕ) (expression : Expression) : Type 0 wh
   pub begins : bytes ≡ spelled expression ++ behind
   pub sound : IsSound expression
 
+-- The bytes begin with an expression.
+abbrev pub BeginsExpression : List ℕ → Type 0
+BeginsExpression bytes = (expression : Expression) × IsExpression bytes expression
+
 -- the items of trees that stand one behind another, where the last one is named first
 abbrev pub items_of : List Tree → List Item
 items_of [] = []

@@ -58,6 +58,10 @@ pub record IsName (behind : List ℕ) (guid : Guid) : Type 0 where
   pub begins : behind ≡ guid.0 ++ end_opcode ∷ rest
   pub whole : IsGuid guid
 
+-- The bytes behind a BEFORE or AFTER begin with a name and END.
+abbrev pub BeginsName : List ℕ → Type 0
+BeginsName behind = (guid : Guid) × IsName behind guid
+
 -- This is kept of an expression that the bytes begin with.
 abbrev pub IsKeptOf : List ℕ → Kept → Type 0
 IsKeptOf bytes kept = (expression : Expression) × IsExpression bytes expression × (kept ≡ kept_of expression)

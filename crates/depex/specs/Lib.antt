@@ -6,4 +6,5 @@ pub mod Keeping
 pub mod Laws
 pub mod Meaning
 pub mod Trees
+pub mod WalkInside
 pub mod WorkingInside

@@ -50,7 +50,7 @@ fn ended(at: u32, operands: usize) -> Found
 }
 
 /// An opcode with the bytes behind it, where so many operands stand in front of it.
-fn judge(opcode: u8, behind: &[u8], at: u32, operands: usize) -> Found
+fn classify(opcode: u8, behind: &[u8], at: u32, operands: usize) -> Found
     requires room { operands ≤ MOST_OPERANDS }
     requires first { at ≡ 0 → AFTER < opcode }
     requires none { operands ≡ 0 → at ≡ 0 }
@@ -82,5 +82,5 @@ pub(crate) fn look(bytes: &[u8], at: usize, operands: usize) -> Found
         return Found::Refused(DepexFault::NoEnd);
     }
     let (_, behind) = bytes.split_at(at + 1);
-    judge(bytes[at], behind, at as u32, operands)
+    classify(bytes[at], behind, at as u32, operands)
 }

@@ -1,15 +1,14 @@
 //! How an expression is read.
-ghost use Rattle.std.specs.Prelude.{◌≡◌, ◌≤◌, ◌⊎◌, length, true, false, Ok, Err, IfOk, IfErr};
+ghost use Rattle.std.specs.Prelude.{◌≡◌, ◌≤◌, ◌⊎◌, length, true, false, Ok, Err, OnOk, IfOk, IfErr};
 ghost use Rattle.mm_base.specs.declared.expression.DepexFault.{DepexFault as DepexFaultValue};
 ghost use Rattle.mm_base.specs.End.{EndsBy, out_of_memory};
 ghost use Rattle.mm_base.specs.declared.end.End.TheVariants.{Fault as FaultOf, NoMemory as OutOfMemory};
-ghost use Rattle.depex.specs.Expressions.{Expression, IsExpression, IsRefusedName, HasFaultInside, HasFault};
-ghost use Rattle.depex.specs.FindingInside.{names_driver, IsCondition, IsName, IsKeptOf};
+ghost use Rattle.depex.specs.Expressions.{Expression, IsExpression, BeginsExpression, IsRefusedName, HasFaultInside, HasFault};
+ghost use Rattle.depex.specs.FindingInside.{names_driver, IsCondition, IsName, BeginsName, IsKeptOf};
 
 use crate::expression::{Depex, Kept};
-use crate::found::Found;
 use crate::item::Item;
-use crate::look::look;
+use crate::item_walk::ItemWalk;
 use crate::opcode::{AFTER, BEFORE, END};
 use mm_base::{DepexFault, End, GUID_BYTES, Guid, List, guid_at};
 use std::alloc::Global;
@@ -28,19 +27,26 @@ fn read_items(alloc: Global, bytes: &[u8]) -> Result<List<Item>, DepexEnd>
     ensures fault { IfErr result (EndsBy (HasFaultInside bytes.now)) }
 {
     let mut items = List::new(alloc);
-    let mut operands = 0;
-    let mut at = 0;
+    let mut walk = ItemWalk::of(bytes);
     loop {
-        match look(bytes, at, operands) {
-            Found::End => return Ok(items),
-            Found::Refused(fault) => return Err(End::Fault(fault)),
-            Found::Next(item) => {
-                items.push(item)?;
-                operands = operands - item.takes() + 1;
-                at += item.len();
-            }
+        match walk.next_item() {
+            Ok(Some(item)) => items.push(item)?,
+            Ok(None) => return Ok(items),
+            Err(fault) => return Err(End::Fault(fault)),
         }
     }
+}
+
+/// Whether the bytes begin with a condition, or their first fault; linear in them. It takes no memory.
+fn judge_items(bytes: &[u8]) -> Result<(), DepexFault>
+    requires few { length bytes.now ≤ 16777216 }
+    requires first { names_driver bytes.now ≡ false }
+    ensures expression { OnOk result (BeginsExpression bytes.now) }
+    ensures fault { IfErr result (HasFaultInside bytes.now) }
+{
+    let mut walk = ItemWalk::of(bytes);
+    while walk.next_item()?.is_some() {}
+    Ok(())
 }
 
 /// The name of a driver, from the bytes behind a BEFORE or AFTER that stands first.
@@ -62,6 +68,15 @@ fn read_name(behind: &[u8]) -> Result<Guid, DepexFault>
     Err(DepexFault::BeforeNotFirst(BEHIND_NAME))
 }
 
+/// Whether bytes behind a BEFORE or AFTER that stands first are a name and END, or their first fault.
+fn judge_name(behind: &[u8]) -> Result<(), DepexFault>
+    ensures name { OnOk result (BeginsName behind.now) }
+    ensures fault { IfErr result (IsRefusedName behind.now) }
+{
+    read_name(behind)?;
+    Ok(())
+}
+
 /// What is kept of the expression that the bytes begin with.
 fn read_kept(alloc: Global, bytes: &[u8]) -> Result<Kept, DepexEnd>
     requires { length bytes.now ≤ 16777216 }
@@ -73,6 +88,31 @@ fn read_kept(alloc: Global, bytes: &[u8]) -> Result<Kept, DepexEnd>
         [AFTER, behind @ ..] => Ok(Kept::After(read_name(behind).map_err(End::Fault)?)),
         _ => Ok(Kept::Items(read_items(alloc, bytes)?)),
     }
+}
+
+/// Whether an expression stands at the front of bytes, or their first fault, part by part.
+fn judge_parts(bytes: &[u8]) -> Result<(), DepexFault>
+    requires { length bytes.now ≤ 16777216 }
+    ensures expression { OnOk result (BeginsExpression bytes.now) }
+    ensures fault { IfErr result (HasFault bytes.now) }
+{
+    match bytes {
+        [BEFORE, behind @ ..] => judge_name(behind),
+        [AFTER, behind @ ..] => judge_name(behind),
+        _ => judge_items(bytes),
+    }
+}
+
+/// Whether an expression stands at the front of bytes, or their first fault; bytes past its END are not read. One pass over the
+/// bytes, which takes no memory.
+pub fn judge(bytes: &[u8]) -> Result<(), DepexFault>
+    requires { length bytes.now ≤ 16777216 }
+    ensures expression { OnOk result (BeginsExpression bytes.now) }
+    ensures fault { IfErr result (HasFault bytes.now) }
+    ensures found { BeginsExpression bytes.now → result ≡ Ok tt }
+    ensures first { (fault : DepexFaultValue) → HasFault bytes.now fault → result ≡ Err fault }
+{
+    judge_parts(bytes)
 }
 
 /// The expression that stands at the front of bytes, or their first fault; bytes past its END are not read. One pass over the

@@ -2,7 +2,7 @@
 ghost use Rattle.std.specs.Prelude.{◌==◌, slice_index};
 
 use crate::opcode::{AND, END, FALSE, MOST_OPERANDS, NOT, OR, PUSH, TRUE};
-use crate::{Depex, DepexFault, Installed, holds, parse};
+use crate::{Depex, DepexFault, Installed, holds, judge, parse};
 use mm_base::{End, Guid, NoMemory};
 use std::alloc::Global;
 use std::test::Fail;
@@ -305,5 +305,26 @@ fn answers(alloc: Global, bytes: &[u8], holds: bool) -> bool {
 fn works_off_operators(rt: HostRuntime) {
     let alloc = rt.alloc();
     let wrong = (0..=u8::MAX).find(|bits| !is_right(alloc, *bits));
+    assert_eq!(rt; wrong, None);
+}
+
+/// Whether a case is judged as it is read: with its fault, or without one.
+fn is_judged(case: &Case) -> bool {
+    if case.bytes.len() > MOST_BYTES {
+        return false;
+    }
+    match (judge(case.bytes), case.answer) {
+        (Err(found), Judgement::Fault(fault)) => found == fault,
+        (Ok(()), Judgement::Fault(_)) | (Err(_), _) => false,
+        (Ok(()), _) => true,
+    }
+}
+
+#[test]
+fn judges_without_memory(rt: HostRuntime) {
+    let wrong = CASES
+        .iter()
+        .find(|case| !is_judged(case))
+        .map(|case| case.name);
     assert_eq!(rt; wrong, None);
 }

@@ -1,13 +1,10 @@
 pub mod BufferInside
-pub mod Catalog
-pub mod CatalogLaws
 pub mod ChainInside
 pub mod CommunicateHeader
 pub mod CoreState
 pub mod EntryStep
 pub mod HandlerChain
 pub mod Invoked
-pub mod KnownFilesInside
 pub mod Laws
 pub mod MachineLemmas
 pub mod Scripted

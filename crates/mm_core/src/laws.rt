@@ -1,7 +1,6 @@
-//! Laws of the entry step: who is dispatched, and which handlers run. Of a catalog: the files of a volume have one list
-//! of words. And what the version handler is. These functions do nothing: their contracts are the laws.
+//! Laws of the entry step: who is dispatched, and which handlers run. And what the version handler is. These functions do
+//! nothing: their contracts are the laws.
 ghost use Rattle.std.specs.Prelude.{◌≡◌};
-ghost use Rattle.mm_core.specs.CatalogLaws.{CatalogIsThere, OneCatalog};
 ghost use Rattle.mm_core.specs.Laws.{DispatchedExactly, RootAlwaysRuns, ChainRunsInOrder};
 ghost use Rattle.mm_core.specs.Version.{version_guid, version_number};
 
@@ -20,12 +19,6 @@ pub fn root_always_runs()
 /// The handlers of a GUID run in order of registration, from the first on to the one whose status stops the chain.
 pub fn chain_runs_in_order()
     ensures { ChainRunsInOrder }
-{}
-
-/// The files of a volume have one list of words, and only one.
-pub fn one_catalog()
-    ensures either { CatalogIsThere }
-    ensures one { OneCatalog }
 {}
 
 /// The GUID and the number of the version handler are those that the definitions say.

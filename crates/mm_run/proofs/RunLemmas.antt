@@ -17,7 +17,7 @@ use Rattle.mm_core.specs.MachineLemmas.{core_step-within}
 use Rattle.mm_text.specs.declared.text_end.TextFault.{TextFault}
 use Rattle.mm_text.proofs.TextLemmas.{never-both, fault-unique}
 use Rattle.volume_reader.specs.declared.volume_fault.VolumeFault.{VolumeFault}
-use Rattle.volume_reader.proofs.LawLemmas as volume_laws
+use Rattle.volume_reader.proofs.Offered.{never_volume_and_fault, one_volume_fault}
 use Rattle.mm_run.specs.Command.{command_of, most_bytes}
 use Rattle.mm_run.specs.ScriptRun.{WasDriven, Shows, Whole, Front, RunHeadline, HasHeadline, core_of, past_of, lanes_of, lane_words, run_report, report_for}
 use Rattle.mm_run.specs.Run.{IsGood, IsFaulty, IsReport, Refusal, Faulty, Unreadable, Long, Wanting, Reports, Holds, HoldsFault, IsMadeOfScript, IsMadeOf, IsMade, RefusesBytes}
@@ -35,14 +35,14 @@ use Rattle.mm_run.specs.declared.made.Made.{Made}
 -- good bytes have no fault
 never_faulty : (command : Command) (bytes : List ℕ) (status : Status) → IsGood command bytes → IsFaulty command bytes status → ⊥
 never_faulty ScriptCommand bytes status good (fault, (first, is)) = never-both true bytes good.0 fault good.1 first
-never_faulty Check bytes status good (fault, (has, is)) = volume_laws.never_both bytes good.0 fault good.1 has
+never_faulty Check bytes status good (fault, (has, is)) = never_volume_and_fault bytes good.0 fault good.1 has
 
 -- and bytes have one first fault
 one_fault : (command : Command) (bytes : List ℕ) (one other : Status) → IsFaulty command bytes one → IsFaulty command bytes other → one ≡ other
 one_fault ScriptCommand bytes one other (f, (a, is)) (g, (b, also)) =
     is ∙ ap (λ (fault : TextFault). BadText fault.line fault.kind) (fault-unique true bytes f g a b) ∙ sym also
 one_fault Check bytes one other (f, (a, is)) (g, (b, also)) =
-    is ∙ ap (λ (fault : VolumeFault). BadVolume fault.at (VolumeIsBad fault.kind)) (volume_laws.one_fault bytes f g a b) ∙ sym also
+    is ∙ ap (λ (fault : VolumeFault). BadVolume fault.at (VolumeIsBad fault.kind)) (one_volume_fault bytes f g a b) ∙ sym also
 
 -- a fault is no status that writes, and not that of faulty words
 fault_writes_nothing : (command : Command) (bytes : List ℕ) (status : Status) → IsFaulty command bytes status → writes status ≡ false

@@ -2,8 +2,8 @@
 use Rattle.std.specs.Prelude.{◌≡◌, ℕ, List, Some, None}
 use Rattle.mm_base.specs.declared.volume.Volume.{Volume}
 use Rattle.volume_reader.specs.VolumeGrammar.{IsVolume}
-use Rattle.mm_core.specs.Catalog.{AreWords}
-use Rattle.mm_core.specs.declared.file_word.FileWord.{FileWord}
+use Rattle.file_words.specs.Catalog.{AreWords}
+use Rattle.file_words.specs.declared.file_word.FileWord.{FileWord}
 use Rattle.mm_text.specs.Report.{report_of}
 
 -- the report of a volume and the words of its files

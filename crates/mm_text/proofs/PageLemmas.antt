@@ -7,7 +7,7 @@ use Rattle.mm_base.specs.Numbers.{bytes_of_word, bytes_of_words}
 use Rattle.mm_text.specs.Adds.{Adds}
 use Rattle.mm_base.specs.declared.entry.Entry.{Entry}
 use Rattle.mm_base.specs.declared.volume.File.{File}
-use Rattle.mm_core.specs.declared.file_word.FileWord.{FileWord}
+use Rattle.file_words.specs.declared.file_word.FileWord.{FileWord}
 use Rattle.mm_text.specs.Report.{bytes_text, entry_lines, entries_lines, lane_line, lanes_lines}
 use Rattle.mm_text.specs.VolumeLines.{file_line, files_lines}
 

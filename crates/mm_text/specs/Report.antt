@@ -30,7 +30,7 @@ use Rattle.mm_base.specs.declared.invocation.Invocation.{Invocation}
 use Rattle.mm_base.specs.declared.volume.File.{File}
 use Rattle.mm_base.specs.declared.volume.Volume.{Volume}
 use Rattle.mm_core.specs.CommunicateHeader.{is_lawful}
-use Rattle.mm_core.specs.declared.file_word.FileWord.{FileWord}
+use Rattle.file_words.specs.declared.file_word.FileWord.{FileWord}
 use Rattle.mm_text.specs.VolumeLines.{volume_line, files_lines}
 use Rattle.mm_text.specs.declared.report_text.Parts.{Parts}
 

@@ -10,10 +10,10 @@ use Rattle.mm_base.specs.declared.image.PeKind.{PeKind}
 use Rattle.mm_base.specs.declared.image.PeKind.TheVariants.{Short, Mz, Lfanew, Signature, Machine, Magic, Optional, Subsystem, Size, Headers, Section, Entry, Reloc}
 use Rattle.mm_base.specs.declared.volume.File.{File}
 use Rattle.mm_base.specs.declared.volume.Volume.{Volume}
-use Rattle.mm_core.specs.declared.file_word.FileWord.{FileWord}
-use Rattle.mm_core.specs.declared.file_word.FileWord.TheVariants.{Driver, Native, Policy, Pad, Passed, Refused}
-use Rattle.mm_core.specs.declared.file_word.Cause.{Cause}
-use Rattle.mm_core.specs.declared.file_word.Cause.TheVariants.{BodySum, SectionSize, Compressed, GuidDefined, NoImage, Pe, Depex, Duplicate}
+use Rattle.file_words.specs.declared.file_word.FileWord.{FileWord}
+use Rattle.file_words.specs.declared.file_word.FileWord.TheVariants.{Driver, Native, Policy, Pad, Passed, Refused}
+use Rattle.file_words.specs.declared.file_word.Cause.{Cause}
+use Rattle.file_words.specs.declared.file_word.Cause.TheVariants.{BodySum, SectionSize, Compressed, GuidDefined, NoImage, Pe, Depex, Duplicate}
 
 -- a number of 32 bits as eight hexadecimal digits, the highest first
 unfoldable pub x8 : ℕ → List ℕ

@@ -140,10 +140,6 @@ read_or_refused bytes fixups are (inr (fits, bad)) =
 
 -- ---- bytes are one image, or have one fault
 
-pub record SameImage (one other : Image) (some others : List Fixup) : Type 0 where
-  pub images : one ≡ other
-  pub fixups : some ≡ others
-
 pub one_image : (bytes : List ℕ) (one other : Image) (some others : List Fixup) → IsImage bytes one some → IsImage bytes other others
     → (one ≡ other) × (some ≡ others)
 one_image bytes one other some others a b =

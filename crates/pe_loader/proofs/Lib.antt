@@ -1,4 +1,5 @@
 pub mod NumberLemmas
+pub mod Offered
 pub mod HeaderLemmas
 pub mod RangeLemmas
 pub mod SectionLemmas
@@ -6,3 +7,5 @@ pub mod FormLemmas
 pub mod BlockLemmas
 pub mod ImageLemmas
 pub mod LoadLemmas
+pub mod EntryLemmas
+pub mod LoadedLemmas

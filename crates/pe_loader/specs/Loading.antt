@@ -1,9 +1,10 @@
 -- The loaded form of an image: its bytes in memory at some address, with its fixups applied.
-use Rattle.std.specs.Prelude.{ℕ, ◌+◌, ◌-◌, ◌*◌, ◌/◌, ◌%◌, ◌^◌, List, ◌++◌, take, drop, length, fold}
+use Rattle.std.specs.Prelude.{◌≡◌, ℕ, ◌+◌, ◌-◌, ◌*◌, ◌/◌, ◌%◌, ◌^◌, List, ◌++◌, take, drop, length, fold}
 use Rattle.std.specs.Int.{Width, w16, w32, w64, byte_len, to_le_bytes}
 use Rattle.mm_base.specs.Numbers.{number_in}
 use Rattle.mm_base.specs.declared.image.Image.{Image}
 use Rattle.pe_loader.specs.Forms.{plain_form}
+use Rattle.pe_loader.specs.Images.{IsImage}
 use Rattle.pe_loader.specs.declared.fixup.Fixup.{Fixup}
 use Rattle.pe_loader.specs.declared.fixup_kind.FixupKind.TheVariants.{High, Low, HighLow, Dir64}
 
@@ -33,3 +34,10 @@ fixed by form fixup = elim (fixup.kind) [
 -- the loaded form: the plain one with the fixups applied in order
 abbrev pub loaded : List ℕ → Image → List Fixup → ℕ → List ℕ
 loaded bytes image fixups base = fold (fixed (difference base image.base)) (plain_form bytes) fixups
+
+-- The bytes are loaded so at an address: they are an image, with some fixups, and this is its loaded form.
+pub record IsLoaded (bytes : List ℕ) (base : ℕ) (form : List ℕ) : Type 0 where
+  pub image : Image
+  pub fixups : List Fixup
+  pub of : IsImage bytes image fixups
+  pub is : form ≡ loaded bytes image fixups base

@@ -1,8 +1,10 @@
 -- What sections tell, as a walk takes them in.
 use Rattle.std.proofs.Common.{◌≡◌, ℕ, Bool, true, false, if◌then◌else◌, ◌==◌, ◌||◌, List, [], ◌∷◌, ◌++◌, Option, Some, None, Result, Ok, Err, IfOk, IfErr, refl, sym, ap, ◌∙◌, subst}
+use Rattle.std.proofs.Math.Bool.{or-false}
 use Rattle.std.specs.List.{list_any, find}
 use Rattle.std.specs.Option.{option_or}
 use Rattle.std.proofs.lemmas.List.Folds.{list_any-append, find-append}
+use Rattle.courses.proofs.VerdictLemmas.{found, first}
 use Rattle.mm_base.specs.declared.volume.File.{File}
 use Rattle.mm_base.specs.declared.volume.Section.{Section}
 use Rattle.mm_base.specs.declared.volume.SectionFault.{SectionFault}
@@ -14,10 +16,6 @@ use Rattle.volume_reader.proofs.SectionWalkLemmas.{Over, over_more, over_end}
 
 -- ---- one section more
 
-or-false : (b : Bool) → (b || false) ≡ b
-or-false true = refl
-or-false false = refl
-
 any_more : (kind : ℕ) (sections : List Section) (section : Section) (others now : Bool)
     → others ≡ list_any (λ (s : Section). s.kind == kind) sections → now ≡ (others || section.kind == kind)
     → now ≡ list_any (λ (s : Section). s.kind == kind) (sections ++ section ∷ [])
@@ -26,7 +24,7 @@ any_more kind sections section others now before is =
     ∙ ap (λ b. list_any (λ (s : Section). s.kind == kind) sections || b) (sym (or-false (section.kind == kind)))
     ∙ sym (list_any-append (λ (s : Section). s.kind == kind) sections (section ∷ []))
 
-first_more : (kind : ℕ) (sections : List Section) (section : Section) (others now : Option Section)
+pub first_more : (kind : ℕ) (sections : List Section) (section : Section) (others now : Option Section)
     → others ≡ find (λ (s : Section). s.kind == kind) sections → now ≡ option_or others (if section.kind == kind then Some section else None)
     → now ≡ find (λ (s : Section). s.kind == kind) (sections ++ section ∷ [])
 first_more kind sections section others now before is =
@@ -74,13 +72,19 @@ taken_end bytes file walk told body begin taken given =
 
 -- ---- what is answered is what the sections tell, or the fault behind some
 
-pub told_found : (bytes : List ℕ) (file : File) (result : Result Contents SectionFault) → IfOk result (HasContents bytes file) → IfErr result (HasRefusedSection bytes file)
-    → (sections : List Section) → HasSections bytes file sections → result ≡ Ok (contents_of sections)
-told_found bytes file (Ok told) ok err sections has =
-    ap Ok (ok.are ∙ ap contents_of (one_list (body_of bytes file) file.body_at ok.sections sections ok.has has))
-told_found bytes file (Err fault) ok err sections has = absurd (list_or_refusal (body_of bytes file) file.body_at sections fault has err)
+module _ (bytes : List ℕ) (file : File) where
+  never_told_and_refused : (told : Contents) (fault : SectionFault) → HasContents bytes file told → HasRefusedSection bytes file fault → ⊥
+  never_told_and_refused told fault has refused = list_or_refusal (body_of bytes file) file.body_at has.sections fault has.has refused
 
-pub told_first : (bytes : List ℕ) (file : File) (result : Result Contents SectionFault) → IfOk result (HasContents bytes file) → IfErr result (HasRefusedSection bytes file)
-    → (fault : SectionFault) → HasRefusedSection bytes file fault → result ≡ Err fault
-told_first bytes file (Ok told) ok err fault refused = absurd (list_or_refusal (body_of bytes file) file.body_at ok.sections fault ok.has refused)
-told_first bytes file (Err other) ok err fault refused = ap Err (one_refusal (body_of bytes file) file.body_at other fault err refused)
+  one_told : (one other : Contents) → HasContents bytes file one → HasContents bytes file other → one ≡ other
+  one_told one other a b = a.are ∙ ap contents_of (one_list (body_of bytes file) file.body_at a.sections b.sections a.has b.has) ∙ sym b.are
+
+  module _ (result : Result Contents SectionFault) (ok : IfOk result (HasContents bytes file)) (err : IfErr result (HasRefusedSection bytes file)) where
+    pub told_found : (sections : List Section) → HasSections bytes file sections → result ≡ Ok (contents_of sections)
+    told_found sections has =
+        found (HasContents bytes file) (HasRefusedSection bytes file) never_told_and_refused one_told result ok err (contents_of sections)
+        (record { sections = sections; has = has; are = refl })
+
+    pub told_first : (fault : SectionFault) → HasRefusedSection bytes file fault → result ≡ Err fault
+    told_first =
+        first (HasContents bytes file) (HasRefusedSection bytes file) never_told_and_refused (one_refusal (body_of bytes file) file.body_at) result ok err

@@ -8,14 +8,14 @@ use Rattle.mm_base.specs.declared.volume.File.{File}
 use Rattle.mm_base.specs.declared.volume.Volume.{Volume}
 use Rattle.volume_reader.specs.VolumeHeader.{volume_length, first_place}
 use Rattle.volume_reader.specs.FileHeader.{Area, file_at}
-use Rattle.volume_reader.specs.VolumeGrammar.{area_of, Span, HeaderAlone, Gone, Counts, HasHeader, Leads, place_behind, files_in, IsVolume}
+use Rattle.volume_reader.specs.VolumeGrammar.{area_of, Span, HeaderAlone, Gone, Counts, HasHeader, SpansLead, place_behind, files_in, IsVolume}
 use Rattle.volume_reader.proofs.HeaderLemmas.{passed}
 
 -- a file with such a header ends in the volume
 file_ends : (area : Area) (at : ℕ) → HasHeader area at → (file_at area at).body_at + (file_at area at).body ≤ length area.bytes
 file_ends area at header = grind (arith, nat_tests, header.fits)
 
-files_end : (area : Area) (at : ℕ) (spans : List Span) (to : ℕ) → Leads area at spans to
+files_end : (area : Area) (at : ℕ) (spans : List Span) (to : ℕ) → SpansLead area at spans to
     → All (λ (file : File). file.body_at + file.body ≤ length area.bytes) (files_in area at spans)
 files_end area at [] to leads = All-nil (λ (file : File). file.body_at + file.body ≤ length area.bytes)
 files_end area at (HeaderAlone ∷ spans) to leads = files_end area (place_behind area at HeaderAlone) spans to leads.1

@@ -9,7 +9,7 @@ use Rattle.mm_base.specs.Numbers.{number_of, number_in, has_bit}
 use Rattle.volume_reader.specs.VolumeHeader.{checks, first_failing, header_length, volume_length, ext_header, ext_size, ext_header_fits, file_system, ffs2_guid, ffs3_guid, first_place, up_to_8, erase_polarity}
 use Rattle.volume_reader.specs.FileHeader.{Area}
 use Rattle.volume_reader.specs.Sums.{sum_in_16_bits}
-use Rattle.volume_reader.specs.VolumeGrammar.{IsVolume, area_of, Leads, EndsAt, files_in}
+use Rattle.volume_reader.specs.VolumeGrammar.{IsVolume, area_of, SpansLead, EndsAt, files_in}
 use Rattle.volume_reader.proofs.HeaderLemmas.{passed, ext_in}
 
 -- ---- bytes with one front
@@ -148,8 +148,8 @@ same_front bytes other volume is fronts =
     let inside : take (volume_length other) other ≡ take (volume_length bytes) bytes = ap (λ k. take k other) long ∙ fronts.same in
     let area : area_of other ≡ area_of bytes = λ i. record { bytes = inside i; ffs3 = system i; erase_polarity = polarity i } in
     let first = first_same bytes other is.header fronts fixed in
-    let P : Area → Type 0 = λ area. Leads area (first_place other) is.spans is.end in
-    let Q : ℕ → Type 0 = λ first. Leads (area_of bytes) first is.spans is.end in
+    let P : Area → Type 0 = λ area. SpansLead area (first_place other) is.spans is.end in
+    let Q : ℕ → Type 0 = λ first. SpansLead (area_of bytes) first is.spans is.end in
     let R : Area → Type 0 = λ area. EndsAt area is.end in
     record {
       header = passes bytes other is.header fronts;

@@ -1,7 +1,8 @@
 -- What the checks of a volume header come to, one after another.
-use Rattle.std.proofs.Common.{◌≡◌, ℕ, get_or, take, tests, ◌+◌, ◌≤◌, ◌<◌, Bool, true, false, List, length, None, refl, ap, arith, rules, ◌==◌}
+use Rattle.std.proofs.Common.{◌≡◌, ℕ, get_or, take, tests, ◌+◌, ◌≤◌, ◌<◌, Bool, true, false, List, length, None, refl, ap, ◌∙◌, arith, rules, ◌==◌}
 use Rattle.std.proofs.lemmas.Bool.Decides.{nat_tests}
-use Rattle.mm_base.proofs.CheckLemmas.{AllPass, first_at, all_pass}
+use Rattle.courses.proofs.CheckLemmas.{fails as first_fails}
+use Rattle.mm_base.proofs.CheckLemmas.{AllPass, all_pass}
 use Rattle.mm_base.specs.Checks.{Check}
 use Rattle.mm_base.specs.declared.volume.VolumeKind.{VolumeKind}
 use Rattle.mm_base.specs.declared.volume.VolumeKind.TheVariants.{Short}
@@ -16,12 +17,14 @@ check_at bytes k = get_or (checks bytes) k (record { kind = Short; at = 0; passe
 -- the first check that fails is the header's fault
 pub fails : (bytes : List ℕ) (fault : VolumeFault) (k : ℕ) → k < 8 → AllPass (take k (checks bytes)) → (check_at bytes k).passes ≡ false
     → fault ≡ record { at = (check_at bytes k).at; kind = (check_at bytes k).kind } → HasBadHeader bytes fault
-fails bytes fault k h pass e is = record {
-  check = check_at bytes k;
-  first = first_at (checks bytes) k (record { kind = Short; at = 0; passes = true }) h pass e;
-  at = ap (λ (f : VolumeFault). f.at) is;
-  kind = ap (λ (f : VolumeFault). f.kind) is;
-}
+fails bytes fault k h pass e is =
+    let there = first_fails (checks bytes) k (record { kind = Short; at = 0; passes = true }) h pass e in
+    record {
+      check = there.check;
+      first = there.first;
+      kind_is = ap (λ (f : VolumeFault). f.kind) is ∙ there.kind_is;
+      place_is = ap (λ (f : VolumeFault). f.at) is ∙ there.place_is;
+    }
 
 -- what a header that passes all checks says of its lengths
 pub record Passed (bytes : List ℕ) : Type 0 where

@@ -1,6 +1,10 @@
 -- Each place of a volume has one thing standing there, and bytes are one volume or have one fault.
-use Rattle.std.proofs.Common.{◌≡◌, ◌⊎◌, inl, inr, ℕ, zero, suc, ◌+◌, ◌<◌, ◌≤◌, Bool, true, false, not, ◌&&◌, List, [], ◌∷◌, length, take, Option, Some, None, Result, Ok, Err, IfOk, IfErr, refl, sym, ap, ◌∙◌, subst, arith}
-use Rattle.std.proofs.lemmas.Bool.Decides.{nat_tests}
+use Rattle.std.proofs.Common.{◌≡◌, ◌⊎◌, inl, inr, ℕ, ◌+◌, ◌-◌, Bool, true, false, not, ◌&&◌, List, length, take, Option, Some, None, Result, Ok, Err, IfOk, IfErr, refl, sym, ap, ◌∙◌, subst, arith}
+use Rattle.courses.specs.Courses.{StopsAfter}
+use Rattle.courses.proofs.CheckLemmas.{one_first, never_first}
+use Rattle.courses.proofs.CourseLemmas as course
+use Rattle.courses.proofs.CourseLemmas.{Same, each_stops}
+use Rattle.courses.proofs.VerdictLemmas.{found_or_end, first_or_end}
 use Rattle.mm_base.specs.Checks.{Check}
 use Rattle.mm_base.specs.declared.volume.File.{File}
 use Rattle.mm_base.specs.declared.volume.Volume.{Volume}
@@ -12,9 +16,9 @@ use Rattle.mm_base.specs.End.{EndsBy, out_of_memory}
 use Rattle.mm_base.specs.declared.end.End.{End}
 use Rattle.mm_base.specs.declared.end.End.TheVariants.{Fault, NoMemory}
 use Rattle.volume_reader.specs.declared.volume_fault.VolumeFault.{VolumeFault}
-use Rattle.volume_reader.specs.VolumeHeader.{first_failing, first_place, volume_length, is_ffs3, erase_polarity}
+use Rattle.volume_reader.specs.VolumeHeader.{checks, first_failing, first_place, volume_length, is_ffs3, erase_polarity}
 use Rattle.volume_reader.specs.FileHeader.{Area, has_room, state_at, is_large, says_large, header_sum_is_zero, size_fits}
-use Rattle.volume_reader.specs.VolumeGrammar.{area_of, Span, HeaderAlone, Gone, Counts, EndsAt, HasHeader, StandsAt, Leads, place_behind, files_in, IsWritten, IsBadAt, IsRefusedAt, IsVolume, HasFault}
+use Rattle.volume_reader.specs.VolumeGrammar.{area_of, Span, HeaderAlone, Gone, Counts, EndsAt, HasHeader, StandsAt, SpansLead, place_behind, files_in, IsWritten, IsBadAt, IsRefusedAt, IsVolume, HasFault}
 use Rattle.volume_reader.specs.FindingInside.{AreFiles}
 use Rattle.volume_reader.proofs.WalkLemmas.{moves_on}
 
@@ -100,24 +104,10 @@ stops_or_stands : (area : Area) (at : ℕ) (span : Span) → StopsAt area at →
 stops_or_stands area at span (inl ends) stands = ends_or_stands area at span ends stands
 stops_or_stands area at span (inr (kind, refused)) stands = refused_or_stands area at kind span refused stands
 
-record Same (some others : List Span) (one other : ℕ) : Type 0 where
-  pub spans : some ≡ others
-  pub ends : one ≡ other
-
-one_course : (area : Area) (at : ℕ) (some others : List Span) (one other : ℕ) → Leads area at some one → StopsAt area one
-    → Leads area at others other → StopsAt area other → Same some others one other
-one_course area at [] [] one other a stop b halt = record { spans = refl; ends = sym a ∙ b }
-one_course area at [] (span ∷ others) one other a stop b halt =
-    let P : ℕ → Type 0 = λ place. StopsAt area place in
-    absurd (stops_or_stands area at span (subst P (sym a) stop) b.0)
-one_course area at (span ∷ some) [] one other a stop b halt =
-    let P : ℕ → Type 0 = λ place. StopsAt area place in
-    absurd (stops_or_stands area at span (subst P (sym b) halt) a.0)
-one_course area at (span ∷ some) (more ∷ others) one other a stop b halt =
-    let same = one_span area at span more a.0 b.0 in
-    let P : Span → Type 0 = λ s. Leads area (place_behind area at s) others other in
-    let rest = one_course area (place_behind area at span) some others one other a.1 stop (subst P (sym same) b.1) halt in
-    record { spans = λ i. same i ∷ rest.spans i; ends = rest.ends }
+module _ (area : Area) where
+  one_course : (at : ℕ) (some others : List Span) (one other : ℕ) → SpansLead area at some one → StopsAt area one
+      → SpansLead area at others other → StopsAt area other → Same some others one other
+  one_course = course.one_course (StandsAt area) (place_behind area) (StopsAt area) (one_span area) (stops_or_stands area)
 
 -- ---- bytes are one volume, or have one fault
 
@@ -126,15 +116,11 @@ one_volume bytes one other a b =
     let same = one_course (area_of bytes) (first_place bytes) a.spans b.spans a.end b.end a.leads (inl a.ends) b.leads (inl b.ends) in
     let lengths : one.length ≡ other.length = a.length_is ∙ sym b.length_is in
     let systems : one.ffs3 ≡ other.ffs3 = a.system ∙ sym b.system in
-    let files : one.files ≡ other.files = a.files ∙ ap (files_in (area_of bytes) (first_place bytes)) same.spans ∙ sym b.files in
+    let files : one.files ≡ other.files = a.files ∙ ap (files_in (area_of bytes) (first_place bytes)) same.items ∙ sym b.files in
     λ i. record { length = lengths i; ffs3 = systems i; files = files i }
 
 pub never_both : (bytes : List ℕ) (volume : Volume) (fault : VolumeFault) → IsVolume bytes volume → HasFault bytes fault → ⊥
-never_both bytes volume fault is (inl bad) =
-    let first = bad.first in
-    let none = is.header in
-    let e : Some bad.check ≡ None = cc in
-    cc
+never_both bytes volume fault is (inl bad) = never_first (checks bytes) fault.kind fault.at bad is.header
 never_both bytes volume fault is (inr bad) =
     let same = one_course (area_of bytes) (first_place bytes) is.spans bad.spans is.end fault.at is.leads (inl is.ends) bad.leads (inr (fault.kind, bad.refused)) in
     let P : ℕ → Type 0 = λ place. EndsAt (area_of bytes) place in
@@ -142,13 +128,10 @@ never_both bytes volume fault is (inr bad) =
 
 pub one_fault : (bytes : List ℕ) (one other : VolumeFault) → HasFault bytes one → HasFault bytes other → one ≡ other
 one_fault bytes one other (inl a) (inl b) =
-    let e : Some a.check ≡ Some b.check = sym a.first ∙ b.first in
-    let same : a.check ≡ b.check = cc in
-    let places : one.at ≡ other.at = a.at ∙ ap (λ (check : Check VolumeKind). check.at) same ∙ sym b.at in
-    let kinds : one.kind ≡ other.kind = a.kind ∙ ap (λ (check : Check VolumeKind). check.kind) same ∙ sym b.kind in
-    λ i. record { at = places i; kind = kinds i }
-one_fault bytes one other (inl a) (inr b) = let e : Some a.check ≡ None = sym a.first ∙ b.header in cc
-one_fault bytes one other (inr a) (inl b) = let e : Some b.check ≡ None = sym b.first ∙ a.header in cc
+    let same = one_first (checks bytes) one.kind other.kind one.at other.at a b in
+    λ i. record { at = same.places i; kind = same.kinds i }
+one_fault bytes one other (inl a) (inr b) = absurd (never_first (checks bytes) one.kind one.at a b.header)
+one_fault bytes one other (inr a) (inl b) = absurd (never_first (checks bytes) other.kind other.at b a.header)
 one_fault bytes one other (inr a) (inr b) =
     let area = area_of bytes in
     let same = one_course area (first_place bytes) a.spans b.spans one.at other.at a.leads (inr (one.kind, a.refused)) b.leads (inr (other.kind, b.refused)) in
@@ -157,17 +140,12 @@ one_fault bytes one other (inr a) (inr b) =
     λ i. record { at = same.ends i; kind = kinds i }
 
 -- what a reader answers is the volume, or the fault, that the bytes are
-pub told_found : (bytes : List ℕ) (result : Result Volume (End VolumeFault)) → IfOk result (IsVolume bytes) → IfErr result (EndsBy (HasFault bytes))
-    → (volume : Volume) → IsVolume bytes volume → (result ≡ Ok volume) ⊎ (result ≡ Err (NoMemory out_of_memory))
-told_found bytes (Ok other) ok err volume is = inl (ap Ok (one_volume bytes other volume ok is))
-told_found bytes (Err (Fault fault)) ok err volume is = absurd (never_both bytes volume fault is err)
-told_found bytes (Err (NoMemory refused)) ok err volume is = inr refl
+module _ (bytes : List ℕ) (result : Result Volume (End VolumeFault)) (ok : IfOk result (IsVolume bytes)) (err : IfErr result (EndsBy (HasFault bytes))) where
+  pub told_found : (volume : Volume) → IsVolume bytes volume → (result ≡ Ok volume) ⊎ (result ≡ Err (NoMemory out_of_memory))
+  told_found = found_or_end (IsVolume bytes) (HasFault bytes) (never_both bytes) (one_volume bytes) result ok err
 
-pub told_first : (bytes : List ℕ) (result : Result Volume (End VolumeFault)) → IfOk result (IsVolume bytes) → IfErr result (EndsBy (HasFault bytes))
-    → (fault : VolumeFault) → HasFault bytes fault → (result ≡ Err (Fault fault)) ⊎ (result ≡ Err (NoMemory out_of_memory))
-told_first bytes (Ok volume) ok err fault is = absurd (never_both bytes volume fault ok is)
-told_first bytes (Err (Fault other)) ok err fault is = inl (ap (λ f. Err (Fault f)) (one_fault bytes other fault err is))
-told_first bytes (Err (NoMemory refused)) ok err fault is = inr refl
+  pub told_first : (fault : VolumeFault) → HasFault bytes fault → (result ≡ Err (Fault fault)) ⊎ (result ≡ Err (NoMemory out_of_memory))
+  told_first = first_or_end (IsVolume bytes) (HasFault bytes) (never_both bytes) (one_fault bytes) result ok err
 
 -- ---- what a header tells, and the files behind it, are a volume
 
@@ -216,23 +194,22 @@ good_or_bad area at room = by_large (is_large area at) (has_room area at 32) ref
     by_large true false large left = inr (FileSize, inr (refl, inr (large, left)))
     by_large false left large is = by_sum (λ e. let wrong : true ≡ false = sym e ∙ large in cc) (header_sum_is_zero area at) refl
 
-data Standing (area : Area) (at : ℕ) : Type 0 where
-  Ends : EndsAt area at → Standing area at
-  IsRefused : (kind : VolumeKind) → IsRefusedAt area at kind → Standing area at
-  Stands : (span : Span) → StandsAt area at span → Standing area at
+-- spans stop at a place, or one stands there
+abbrev Standing : Area → ℕ → Type 0
+Standing area at = StopsAt area at ⊎ ((span : Span) × StandsAt area at span)
 
 standing : (area : Area) (at : ℕ) → Standing area at
 standing area at = by_room (has_room area at 24) refl
   where
     with_header : (span : Span) → IsWritten area at → (HasHeader area at → StandsAt area at span)
         → HasHeader area at ⊎ ((kind : VolumeKind) × IsBadAt area at kind) → Standing area at
-    with_header span written stands (inl good) = Stands span (stands good)
-    with_header span written stands (inr bad) = IsRefused bad.0 (written, bad.1)
+    with_header span written stands (inl good) = inr (span, stands good)
+    with_header span written stands (inr bad) = inl (inr (bad.0, (written, bad.1)))
 
     by_state : has_room area at 24 ≡ true → (state : FileState) → state_at area at ≡ state → Standing area at
-    by_state room Free is = Ends (inr is)
-    by_state room HeaderConstruction is = Stands HeaderAlone (room, inl is)
-    by_state room HeaderInvalid is = Stands HeaderAlone (room, inr is)
+    by_state room Free is = inl (inl (inr is))
+    by_state room HeaderConstruction is = inr (HeaderAlone, (room, inl is))
+    by_state room HeaderInvalid is = inr (HeaderAlone, (room, inr is))
     by_state room HeaderValid is =
         with_header Gone (record { room = room; written = λ e. cc; not_constructed = λ e. cc; not_invalid = λ e. cc }) (λ good. (good, inl is)) (good_or_bad area at room)
     by_state room Deleted is =
@@ -244,25 +221,17 @@ standing area at = by_room (has_room area at 24) refl
 
     by_room : (room : Bool) → has_room area at 24 ≡ room → Standing area at
     by_room true is = by_state is (state_at area at) refl
-    by_room false is = Ends (inl is)
+    by_room false is = inl (inl (inl is))
 
 -- where spans lead to
-record Stopped (area : Area) (at : ℕ) : Type 0 where
-  pub spans : List Span
-  pub end : ℕ
-  pub leads : Leads area at spans end
-  pub stops : StopsAt area end
+abbrev Stopped : Area → ℕ → Type 0
+Stopped area at = StopsAfter (StandsAt area) (place_behind area) (StopsAt area) at
 
-stopped_from : (area : Area) (at : ℕ) → Standing area at → ((place : ℕ) → at < place → Stopped area place) → Stopped area at
-stopped_from area at (Ends ends) rest = record { spans = []; end = at; leads = refl; stops = inl ends }
-stopped_from area at (IsRefused kind refused) rest = record { spans = []; end = at; leads = refl; stops = inr (kind, refused) }
-stopped_from area at (Stands span stands) rest =
-    let more = rest (place_behind area at span) (moves_on area at span stands).0 in
-    record { spans = span ∷ more.spans; end = more.end; leads = (stands, more.leads); stops = more.stops }
-
-stopped : (fuel : ℕ) (area : Area) (at : ℕ) → length area.bytes + 8 ≤ at + fuel → Stopped area at
-stopped zero area at far = record { spans = []; end = at; leads = refl; stops = inl (inl (grind (arith, nat_tests))) }
-stopped (suc fuel) area at near = stopped_from area at (standing area at) (λ place behind. stopped fuel area place (omega arith))
+stopped : (area : Area) (at : ℕ) → Stopped area at
+stopped area =
+    each_stops (StandsAt area) (place_behind area) (StopsAt area) (λ at. length area.bytes + 8 - at) (standing area) (λ at span stands.
+    let moves = moves_on area at span stands in
+    omega arith)
 
 pub either : (bytes : List ℕ) → ((volume : Volume) × IsVolume bytes volume) ⊎ ((fault : VolumeFault) × HasFault bytes fault)
 either bytes = by_header (first_failing bytes) refl
@@ -271,15 +240,16 @@ either bytes = by_header (first_failing bytes) refl
         → ((volume : Volume) × IsVolume bytes volume) ⊎ ((fault : VolumeFault) × HasFault bytes fault)
     by_course none course (inl ends) =
         inl (
-          record { length = volume_length bytes; ffs3 = is_ffs3 bytes; files = files_in (area_of bytes) (first_place bytes) course.spans },
-          record { header = none; length_is = refl; system = refl; spans = course.spans; end = course.end; leads = course.leads; ends = ends; files = refl },
+          record { length = volume_length bytes; ffs3 = is_ffs3 bytes; files = files_in (area_of bytes) (first_place bytes) course.items },
+          record { header = none; length_is = refl; system = refl; spans = course.items; end = course.end; leads = course.leads; ends = ends; files = refl },
         )
     by_course none course (inr (kind, refused)) =
-        inr (record { at = course.end; kind = kind }, inr (record { header = none; spans = course.spans; leads = course.leads; refused = refused }))
+        inr (record { at = course.end; kind = kind }, inr (record { header = none; spans = course.items; leads = course.leads; refused = refused }))
 
     by_header : (first : Option (Check VolumeKind)) → first_failing bytes ≡ first
         → ((volume : Volume) × IsVolume bytes volume) ⊎ ((fault : VolumeFault) × HasFault bytes fault)
-    by_header (Some check) is = inr (record { at = check.at; kind = check.kind }, inl (record { check = check; first = is; at = refl; kind = refl }))
+    by_header (Some check) is =
+        inr (record { at = check.at; kind = check.kind }, inl (record { check = check; first = is; kind_is = refl; place_is = refl }))
     by_header None is =
-        let course = stopped (length (area_of bytes).bytes + 8) (area_of bytes) (first_place bytes) (omega arith) in
+        let course = stopped (area_of bytes) (first_place bytes) in
         by_course is course course.stops

@@ -3,6 +3,7 @@ pub mod HeaderLemmas
 pub mod AreaLemmas
 pub mod WalkLemmas
 pub mod LawLemmas
+pub mod Offered
 pub mod FrontLemmas
 pub mod FileLemmas
 pub mod SectionLemmas
@@ -10,3 +11,5 @@ pub mod SectionWalkLemmas
 pub mod SectionNumberLemmas
 pub mod SectionLawLemmas
 pub mod ContentsLemmas
+pub mod PlaceLemmas
+pub mod SearchLemmas

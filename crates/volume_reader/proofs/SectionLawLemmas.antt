@@ -1,10 +1,11 @@
 -- The laws of sections: a list or a refusal, and what a walk gives.
-use Rattle.std.proofs.Common.{◌≡◌, ◌⊎◌, inl, inr, ◌↔◌, ℕ, zero, suc, ◌+◌, ◌<◌, ◌≤◌, Bool, true, false, nat_le, List, [], ◌∷◌, length, Option, Some, None, Result, Ok, Err, refl, sym, ap, ◌∙◌, subst, arith}
-use Rattle.std.proofs.lemmas.Bool.Decides.{nat_tests}
+use Rattle.std.proofs.Common.{◌≡◌, ◌⊎◌, inl, inr, ◌↔◌, ℕ, ◌+◌, ◌-◌, Bool, true, false, nat_le, List, [], ◌∷◌, length, Option, Some, None, Result, Ok, Err, refl, sym, ap, ◌∙◌, subst, arith}
+use Rattle.courses.specs.Courses.{StopsAfter}
+use Rattle.courses.proofs.CourseLemmas.{each_stops}
 use Rattle.mm_base.specs.declared.volume.File.{File}
 use Rattle.mm_base.specs.declared.volume.Section.{Section}
 use Rattle.mm_base.specs.declared.volume.SectionFault.{SectionFault}
-use Rattle.volume_reader.specs.Sections.{body_of, has_section, section_at, section_behind, SectionsLead, AreSections, HasRefusal, HasSections, HasRefusedSection, Walk, walk_of, given_next, walked_on}
+use Rattle.volume_reader.specs.Sections.{body_of, has_section, section_at, section_behind, HoldsSection, SectionsLead, AreSections, HasRefusal, HasSections, HasRefusedSection, Walk, walk_of, given_next, walked_on}
 use Rattle.volume_reader.specs.SectionLaws.{WalksOver}
 use Rattle.volume_reader.proofs.SectionLemmas.{section_moves}
 use Rattle.volume_reader.proofs.SectionWalkLemmas.{Gives, GivesSection, GivesNone, GivesFault, gives, over_end, over_refused}
@@ -15,37 +16,33 @@ use Rattle.volume_reader.proofs.SectionWalkLemmas.{Gives, GivesSection, GivesNon
 abbrev EndsOrRefuses : List ℕ → ℕ → Type 0
 EndsOrRefuses body at = (nat_le (at + 4) (length body) ≡ false) ⊎ ((nat_le (at + 4) (length body) ≡ true) × (has_section body at ≡ false))
 
-record Halted (body : List ℕ) (begin at : ℕ) : Type 0 where
-  pub sections : List Section
-  pub end : ℕ
-  pub leads : SectionsLead body begin at sections end
-  pub halts : EndsOrRefuses body end
+abbrev Halted : List ℕ → ℕ → ℕ → Type 0
+Halted body begin at = StopsAfter (HoldsSection body begin) (λ place section. section_behind body place) (EndsOrRefuses body) at
 
-halted_from : (body : List ℕ) (begin at : ℕ) → ((place : ℕ) → at < place → Halted body begin place) → Halted body begin at
-halted_from body begin at rest = by_tests (nat_le (at + 4) (length body)) (has_section body at) refl refl
+halted : (body : List ℕ) (begin at : ℕ) → Halted body begin at
+halted body begin =
+    each_stops (HoldsSection body begin) (λ place section. section_behind body place) (EndsOrRefuses body) (λ place. length body - place)
+    (λ place. by_tests place (nat_le (place + 4) (length body)) (has_section body place) refl refl) (λ place section holds.
+    let moves = section_moves body place (record { room = holds.room; section = holds.whole }) in
+    omega (arith, moves.0, moves.1))
   where
-    by_tests : (room section : Bool) → nat_le (at + 4) (length body) ≡ room → has_section body at ≡ section → Halted body begin at
-    by_tests false section a b = record { sections = []; end = at; leads = refl; halts = inl a }
-    by_tests true false a b = record { sections = []; end = at; leads = refl; halts = inr (a, b) }
-    by_tests true true a b =
-        let more = rest (section_behind body at) (section_moves body at (record { room = a; section = b })).0 in
-        record { sections = section_at body begin at ∷ more.sections; end = more.end; leads = (a, b, refl, more.leads); halts = more.halts }
-
-halted : (fuel : ℕ) (body : List ℕ) (begin at : ℕ) → length body ≤ at + fuel → Halted body begin at
-halted zero body begin at far = record { sections = []; end = at; leads = refl; halts = inl (grind (arith, nat_tests)) }
-halted (suc fuel) body begin at near = halted_from body begin at (λ place behind. halted fuel body begin place (omega arith))
+    by_tests : (at : ℕ) (room section : Bool) → nat_le (at + 4) (length body) ≡ room → has_section body at ≡ section
+        → EndsOrRefuses body at ⊎ ((section : Section) × HoldsSection body begin at section)
+    by_tests at false section a b = inl (inl a)
+    by_tests at true false a b = inl (inr (a, b))
+    by_tests at true true a b = inr (section_at body begin at, record { room = a; whole = b; is = refl })
 
 pub either : (body : List ℕ) (begin : ℕ) → ((sections : List Section) × AreSections body begin sections) ⊎ ((fault : SectionFault) × HasRefusal body begin fault)
-either body begin = by_halt (halted (length body) body begin 0 (omega arith))
+either body begin = by_halt (halted body begin 0)
   where
     by_end : (there : Halted body begin 0) → EndsOrRefuses body there.end
         → ((sections : List Section) × AreSections body begin sections) ⊎ ((fault : SectionFault) × HasRefusal body begin fault)
-    by_end there (inl ends) = inl (there.sections, record { end = there.end; reached = record { leads = there.leads }; ends = ends })
+    by_end there (inl ends) = inl (there.items, record { end = there.end; reached = record { leads = there.leads }; ends = ends })
     by_end there (inr bad) =
         inr (
           record { at = begin + there.end },
           record {
-            sections = there.sections;
+            sections = there.items;
             at = there.end;
             refused = record { reached = record { leads = there.leads }; there = bad.0; bad = bad.1 };
             place = refl;
@@ -53,7 +50,7 @@ either body begin = by_halt (halted (length body) body begin 0 (omega arith))
         )
 
     by_halt : Halted body begin 0 → ((sections : List Section) × AreSections body begin sections) ⊎ ((fault : SectionFault) × HasRefusal body begin fault)
-    by_halt there = by_end there there.halts
+    by_halt there = by_end there there.stops
 
 -- ---- by a walk
 
@@ -74,7 +71,7 @@ comes_more body begin place section sections last given rest = by_gift (gives (r
         let more = rest on in
         let e : Ok (Some section) ≡ Ok (Some (section_at body begin place)) = sym given ∙ gift in
         let same : section ≡ section_at body begin place = cc in
-        record { end = more.end; leads = (stands.room, stands.section, same, more.leads); gives = more.gives }
+        record { end = more.end; leads = (record { room = stands.room; whole = stands.section; is = same }, more.leads); gives = more.gives }
     by_gift (GivesNone left gift) = let e : Ok None ≡ Ok (Some section) = sym gift ∙ given in cc
     by_gift (GivesFault left bad gift) = let fault : SectionFault = record { at = begin + place } in let e : Err fault ≡ Ok (Some section) = sym gift ∙ given in cc
 
@@ -92,12 +89,12 @@ walks_over body begin place [] end last leads gives =
     let P : ℕ → Type 0 = λ place. given_next (record { body = body; begin = begin; place = place }) ≡ last in
     subst P (sym leads) gives
 walks_over body begin place (section ∷ sections) end last leads gives =
-    let room = leads.0 in
-    let stands = leads.1 in
+    let room = leads.0.room in
+    let stands = leads.0.whole in
     let P : Walk → Type 0 = λ walk. WalksOver walk sections last in
     let on : walked_on (record { body = body; begin = begin; place = place }) ≡ record { body = body; begin = begin; place = section_behind body place } = rw (room, stands) in
     let given : given_next (record { body = body; begin = begin; place = place }) ≡ Ok (Some (section_at body begin place)) = rw (room, stands) in
-    (given ∙ ap (λ s. Ok (Some s)) (sym leads.2), subst P (sym on) (walks_over body begin (section_behind body place) sections end last leads.3 gives))
+    (given ∙ ap (λ s. Ok (Some s)) (sym leads.0.is), subst P (sym on) (walks_over body begin (section_behind body place) sections end last leads.1 gives))
 
 pub walk_gives : (bytes : List ℕ) (file : File) (sections : List Section) → WalksOver (walk_of bytes file) sections (Ok None) ↔ HasSections bytes file sections
 walk_gives bytes file sections = (

@@ -2,9 +2,11 @@
 use Rattle.std.proofs.Common.{◌≡◌, ℕ, zero, suc, ◌+◌, ◌<◌, ◌≤◌, true, false, nat_le, List, [], ◌∷◌, ◌++◌, length, Some, None, refl, sym, ap, ◌∙◌, subst, arith}
 use Rattle.std.specs.List.{slice_get}
 use Rattle.std.proofs.lemmas.Bool.Decides.{nat_tests}
+use Rattle.courses.proofs.CourseLemmas as course
+use Rattle.courses.proofs.CourseLemmas.{Same, leads-more}
 use Rattle.mm_base.specs.declared.volume.Section.{Section}
 use Rattle.mm_base.specs.declared.volume.SectionFault.{SectionFault}
-use Rattle.volume_reader.specs.Sections.{has_section, section_at, section_behind, SectionsLead, AreSections, IsRefusedBehind, HasRefusal}
+use Rattle.volume_reader.specs.Sections.{has_section, section_at, section_behind, HoldsSection, SectionsLead, AreSections, IsRefusedBehind, HasRefusal}
 
 -- ---- where sections stand
 
@@ -20,14 +22,18 @@ section_moves body at stands =
     let section = stands.section in
     (grind (arith, nat_tests), grind (arith, nat_tests))
 
+-- it is the one that these bytes tell
+holds : (body : List ℕ) (begin at : ℕ) → Stands body at → HoldsSection body begin at (section_at body begin at)
+holds body begin at stands = record { room = stands.room; whole = stands.section; is = refl }
+
+held : (body : List ℕ) (begin at : ℕ) (section : Section) → HoldsSection body begin at section → Stands body at
+held body begin at section holds = record { room = holds.room; section = holds.whole }
+
 -- one more section behind others
-pub leads-more : (body : List ℕ) (begin at : ℕ) (sections : List Section) (to : ℕ) → SectionsLead body begin at sections to → Stands body to
+pub leads-section : (body : List ℕ) (begin at : ℕ) (sections : List Section) (to : ℕ) → SectionsLead body begin at sections to → Stands body to
     → SectionsLead body begin at (sections ++ section_at body begin to ∷ []) (section_behind body to)
-leads-more body begin at [] to leads stands =
-    let P : ℕ → Type 0 = λ place. SectionsLead body begin place (section_at body begin to ∷ []) (section_behind body to) in
-    subst P (sym leads) (stands.room, stands.section, refl, refl)
-leads-more body begin at (section ∷ sections) to leads stands =
-    (leads.0, leads.1, leads.2, leads-more body begin (section_behind body at) sections to leads.3 stands)
+leads-section body begin at sections to leads stands =
+    leads-more (HoldsSection body begin) (λ place section. section_behind body place) at sections to (section_at body begin to) leads (holds body begin to stands)
 
 -- a place where no section stands
 pub record Stop (body : List ℕ) (at : ℕ) : Type 0 where
@@ -41,29 +47,17 @@ refused_stop body begin sections at refused = record { none = λ there. let a = 
 
 -- ---- one course
 
-pub record SameCourse (some others : List Section) (one other : ℕ) : Type 0 where
-  pub sections : some ≡ others
-  pub ends : one ≡ other
-
 pub one_course : (body : List ℕ) (begin at : ℕ) (some others : List Section) (one other : ℕ)
-    → SectionsLead body begin at some one → Stop body one → SectionsLead body begin at others other → Stop body other → SameCourse some others one other
-one_course body begin at [] [] one other a stop b halt = record { sections = refl; ends = sym a ∙ b }
-one_course body begin at [] (y ∷ others) one other a stop b halt =
-    let P : ℕ → Type 0 = λ place. Stop body place in
-    absurd ((subst P (sym a) stop).none (record { room = b.0; section = b.1 }))
-one_course body begin at (x ∷ some) [] one other a stop b halt =
-    let P : ℕ → Type 0 = λ place. Stop body place in
-    absurd ((subst P (sym b) halt).none (record { room = a.0; section = a.1 }))
-one_course body begin at (x ∷ some) (y ∷ others) one other a stop b halt =
-    let rest = one_course body begin (section_behind body at) some others one other a.3 stop b.3 halt in
-    let same : x ≡ y = a.2 ∙ sym b.2 in
-    record { sections = λ i. same i ∷ rest.sections i; ends = rest.ends }
+    → SectionsLead body begin at some one → Stop body one → SectionsLead body begin at others other → Stop body other → Same some others one other
+one_course body begin at some others one other a stop b halt =
+    course.one_course (HoldsSection body begin) (λ place section. section_behind body place) (Stop body)
+    (λ place s t x y. x.is ∙ sym y.is) (λ place s stops stands. stops.none (held body begin place s stands)) at some others one other a stop b halt
 
 -- ---- a body has one list of sections or one refusal
 
 pub one_list : (body : List ℕ) (begin : ℕ) (one other : List Section) → AreSections body begin one → AreSections body begin other → one ≡ other
 one_list body begin one other a b =
-    (one_course body begin 0 one other a.end b.end a.reached.leads (ends_stop body begin one a) b.reached.leads (ends_stop body begin other b)).sections
+    (one_course body begin 0 one other a.end b.end a.reached.leads (ends_stop body begin one a) b.reached.leads (ends_stop body begin other b)).items
 
 pub list_or_refusal : (body : List ℕ) (begin : ℕ) (sections : List Section) (fault : SectionFault) → AreSections body begin sections → HasRefusal body begin fault → ⊥
 list_or_refusal body begin sections fault a b =
@@ -88,10 +82,10 @@ same_at body begin at (x ∷ some) [] one other index s t a b is are = let e : N
 same_at body begin at (x ∷ some) (y ∷ others) one other zero s t a b is are =
     let first : Some x ≡ Some s = is in
     let second : Some y ≡ Some t = are in
-    let same : x ≡ y = a.2 ∙ sym b.2 in
+    let same : x ≡ y = a.0.is ∙ sym b.0.is in
     cc
 same_at body begin at (x ∷ some) (y ∷ others) one other (suc index) s t a b is are =
-    same_at body begin (section_behind body at) some others one other index s t a.3 b.3 is are
+    same_at body begin (section_behind body at) some others one other index s t a.1 b.1 is are
 
 -- where more sections stand, one stands behind fewer
 pub stands_behind : (body : List ℕ) (begin at : ℕ) (more fewer : List Section) (one other : ℕ)
@@ -99,5 +93,5 @@ pub stands_behind : (body : List ℕ) (begin at : ℕ) (more fewer : List Sectio
 stands_behind body begin at [] fewer one other a b h = absurd (omega arith)
 stands_behind body begin at (x ∷ more) [] one other a b h =
     let P : ℕ → Type 0 = λ place. Stands body place in
-    subst P b (record { room = a.0; section = a.1 })
-stands_behind body begin at (x ∷ more) (y ∷ fewer) one other a b h = stands_behind body begin (section_behind body at) more fewer one other a.3 b.3 (omega arith)
+    subst P b (held body begin at x a.0)
+stands_behind body begin at (x ∷ more) (y ∷ fewer) one other a b h = stands_behind body begin (section_behind body at) more fewer one other a.1 b.1 (omega arith)

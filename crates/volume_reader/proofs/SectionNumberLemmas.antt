@@ -7,7 +7,7 @@ use Rattle.std.proofs.lemmas.Bool.{cases_lt}
 use Rattle.mm_base.specs.declared.volume.Section.{Section}
 use Rattle.mm_base.specs.declared.volume.SectionFault.{SectionFault}
 use Rattle.volume_reader.specs.Sections.{section_at, section_behind, SectionsLead, AreSections, IsRefusedBehind, Walk, given_next, walked_on, HasSection, HasAtMost, HasSectionFault}
-use Rattle.volume_reader.proofs.SectionLemmas.{Stop, ends_stop, refused_stop, one_course, one_list, same_at, stands_behind, leads-more}
+use Rattle.volume_reader.proofs.SectionLemmas.{Stop, ends_stop, refused_stop, one_course, one_list, same_at, stands_behind, leads-section}
 use Rattle.volume_reader.proofs.SectionWalkLemmas.{Gives, GivesSection, GivesNone, GivesFault, gives, Over, over_more, over_end, over_refused}
 
 -- ---- what a body has by a number is one thing
@@ -123,7 +123,7 @@ answers walk index skipped = by_gift (gives walk)
           ok = record {
             sections = skipped.sections ++ section_at walk.body walk.begin walk.place ∷ [];
             to = section_behind walk.body walk.place;
-            reached = record { leads = leads-more walk.body walk.begin 0 skipped.sections walk.place skipped.over.leads stands };
+            reached = record { leads = leads-section walk.body walk.begin 0 skipped.sections walk.place skipped.over.leads stands };
             there = subst Q skipped.many (last_of skipped.sections (section_at walk.body walk.begin walk.place));
           };
           err = tt;
@@ -195,7 +195,7 @@ numbers_refusal body begin index at sections refused = (
     λ has.
         let same = one_course body begin 0 has.sections sections has.at at has.refused.reached.leads (refused_stop body begin has.sections has.at has.refused)
         refused.reached.leads (refused_stop body begin sections at refused) in
-        let lengths = ap (λ (all : List Section). length all) same.sections in
+        let lengths = ap (λ (all : List Section). length all) same.items in
         (omega (arith, has.few), has.place ∙ ap (λ at. begin + at) same.ends),
     λ past. record { sections = sections; at = at; refused = refused; place = past.1; few = past.0 },
   ),

@@ -3,7 +3,7 @@ use Rattle.std.proofs.Common.{◌≡◌, ◌+◌, Bool, true, false, ◌&&◌, n
 use Rattle.mm_base.specs.declared.volume.Section.{Section}
 use Rattle.mm_base.specs.declared.volume.SectionFault.{SectionFault}
 use Rattle.volume_reader.specs.Sections.{has_section, section_at, section_behind, SectionsLead, AreSections, IsRefusedBehind, Walk, given_next, walked_on}
-use Rattle.volume_reader.proofs.SectionLemmas.{Stands, leads-more}
+use Rattle.volume_reader.proofs.SectionLemmas.{Stands, leads-section}
 
 -- ---- what a walk gives
 
@@ -54,7 +54,7 @@ over_more walk next sections section over given is = by_gift (gives walk)
         let same : section_at walk.body walk.begin walk.place ≡ section = cc in
         let P : Section → Type 0 = λ s. Over (record walk { place = section_behind walk.body walk.place }) (sections ++ s ∷ []) in
         let Q : Walk → Type 0 = λ w. Over w (sections ++ section ∷ []) in
-        subst Q (sym (is ∙ on)) (subst P same (record { leads = leads-more walk.body walk.begin 0 sections walk.place over.leads stands }))
+        subst Q (sym (is ∙ on)) (subst P same (record { leads = leads-section walk.body walk.begin 0 sections walk.place over.leads stands }))
     by_gift (GivesNone left gift) = let e : Ok None ≡ Ok (Some section) = sym gift ∙ given in cc
     by_gift (GivesFault left bad gift) = let fault : SectionFault = record { at = walk.begin + walk.place } in let e : Err fault ≡ Ok (Some section) = sym gift ∙ given in cc
 

@@ -2,22 +2,20 @@
 use Rattle.std.proofs.Common.{◌≡◌, ℕ, ◌+◌, ◌<◌, ◌≤◌, List, [], ◌∷◌, ◌++◌, length, refl, sym, ap, ◌∙◌, subst, append_assoc, arith, Option}
 use Rattle.std.proofs.lemmas.List.{append-nil}
 use Rattle.std.proofs.lemmas.Bool.Decides.{nat_tests}
+use Rattle.courses.proofs.CourseLemmas.{leads-more}
 use Rattle.mm_base.specs.declared.volume.File.{File}
 use Rattle.volume_reader.specs.VolumeHeader.{up_to_8}
 use Rattle.volume_reader.specs.FileHeader.{Area, size_at}
-use Rattle.volume_reader.specs.VolumeGrammar.{Span, HeaderAlone, Gone, Counts, StandsAt, Leads, place_behind, files_of, files_in, HasHeader}
+use Rattle.volume_reader.specs.VolumeGrammar.{Span, HeaderAlone, Gone, Counts, StandsAt, SpansLead, place_behind, files_of, files_in, HasHeader}
 use Rattle.volume_reader.specs.FindingInside.{FindsSpan, listed}
 
 -- one more span behind others
-pub leads-more : (area : Area) (at : ℕ) (spans : List Span) (to : ℕ) (span : Span) → Leads area at spans to → StandsAt area to span
-    → Leads area at (spans ++ span ∷ []) (place_behind area to span)
-leads-more area at [] to span leads stands =
-    let P : ℕ → Type 0 = λ place. StandsAt area place span in
-    (subst P (sym leads) stands, ap (λ place. place_behind area place span) leads)
-leads-more area at (other ∷ spans) to span leads stands = (leads.0, leads-more area (place_behind area at other) spans to span leads.1 stands)
+pub leads-span : (area : Area) (at : ℕ) (spans : List Span) (to : ℕ) (span : Span) → SpansLead area at spans to → StandsAt area to span
+    → SpansLead area at (spans ++ span ∷ []) (place_behind area to span)
+leads-span area at spans to span leads stands = leads-more (StandsAt area) (place_behind area) at spans to span leads stands
 
 -- and its file
-pub files_in-more : (area : Area) (at : ℕ) (spans : List Span) (to : ℕ) (span : Span) → Leads area at spans to
+pub files_in-more : (area : Area) (at : ℕ) (spans : List Span) (to : ℕ) (span : Span) → SpansLead area at spans to
     → files_in area at (spans ++ span ∷ []) ≡ files_in area at spans ++ files_of area to span
 files_in-more area at [] to span leads = append-nil (files_of area at span) ∙ ap (λ place. files_of area place span) leads
 files_in-more area at (other ∷ spans) to span leads =
@@ -28,7 +26,7 @@ files_in-more area at (other ∷ spans) to span leads =
 -- the files that were met on the way from one place to another
 pub record Walked (area : Area) (first : ℕ) (files : List File) (at : ℕ) : Type 0 where
   pub spans : List Span
-  pub leads : Leads area first spans at
+  pub leads : SpansLead area first spans at
   pub are : files ≡ files_in area first spans
 
 pub walked_none : (area : Area) (first : ℕ) → Walked area first [] first
@@ -37,10 +35,10 @@ walked_none area first = record { spans = []; leads = refl; are = refl }
 pub walked_more : (area : Area) (first : ℕ) (files : List File) (at next : ℕ) (file : Option File)
     → Walked area first files at → FindsSpan area at next file → Walked area first (files ++ listed file) next
 walked_more area first files at next file walked found =
-    let P : ℕ → Type 0 = λ place. Leads area first (walked.spans ++ found.span ∷ []) place in
+    let P : ℕ → Type 0 = λ place. SpansLead area first (walked.spans ++ found.span ∷ []) place in
     record {
       spans = walked.spans ++ found.span ∷ [];
-      leads = subst P (sym found.behind) (leads-more area first walked.spans at found.span walked.leads found.stands);
+      leads = subst P (sym found.behind) (leads-span area first walked.spans at found.span walked.leads found.stands);
       are = ap (λ (all : List File). all ++ listed file) walked.are
           ∙ ap (λ (more : List File). files_in area first walked.spans ++ more) found.files
           ∙ sym (files_in-more area first walked.spans at found.span walked.leads);

@@ -4,7 +4,7 @@ use Rattle.std.specs.Prelude.{◌≡◌, ℕ, ◌+◌, Bool, if◌then◌else◌
 use Rattle.mm_base.specs.declared.volume.File.{File}
 use Rattle.volume_reader.specs.VolumeHeader.{up_to_8}
 use Rattle.volume_reader.specs.FileHeader.{Area, size_at, file_at}
-use Rattle.volume_reader.specs.VolumeGrammar.{EndsAt, Span, HasHeader, StandsAt, place_behind, files_of, IsBadAt, IsRefusedAt, Leads, files_in}
+use Rattle.volume_reader.specs.VolumeGrammar.{EndsAt, Span, HasHeader, StandsAt, place_behind, files_of, IsBadAt, IsRefusedAt, SpansLead, files_in}
 use Rattle.volume_reader.specs.declared.volume_fault.VolumeFault.{VolumeFault}
 use Rattle.volume_reader.specs.declared.area.Found.{Found}
 use Rattle.volume_reader.specs.declared.area.Found.TheVariants.{End, Refused, Behind}
@@ -38,12 +38,12 @@ FindsFile area at counts (Behind next file) =
 pub record AreFiles (area : Area) (first : ℕ) (files : List File) : Type 0 where
   pub spans : List Span
   pub end : ℕ
-  pub leads : Leads area first spans end
+  pub leads : SpansLead area first spans end
   pub ends : EndsAt area end
   pub are : files ≡ files_in area first spans
 
 -- Spans lead from a place to one that is refused.
 pub record HasFaultFrom (area : Area) (first : ℕ) (fault : VolumeFault) : Type 0 where
   pub spans : List Span
-  pub leads : Leads area first spans fault.at
+  pub leads : SpansLead area first spans fault.at
   pub refused : IsRefusedAt area fault.at fault.kind

@@ -1,6 +1,8 @@
 pub mod Contents
 pub mod FileHeader
+pub mod FileLaws
 pub mod FindingInside
+pub mod Search
 pub mod SectionLaws
 pub mod Sections
 pub mod Sums

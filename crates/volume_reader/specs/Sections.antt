@@ -1,7 +1,8 @@
 -- The sections of a file: EFI_COMMON_SECTION_HEADER and EFI_COMMON_SECTION_HEADER2 of PI 1.8, volume 3. All numbers stand with the
 -- lowest byte first.
-use Rattle.std.specs.Prelude.{◌≡◌, ◌≤◌, ℕ, ◌+◌, ◌-◌, ◌*◌, ◌/◌, Bool, true, false, if◌then◌else◌, ◌==◌, ◌&&◌, nat_le, List, [], ◌∷◌, length, take, drop, Option, Some, None, Result, Ok, Err}
+use Rattle.std.specs.Prelude.{◌≡◌, ◌≤◌, ℕ, ◌+◌, ◌-◌, ◌*◌, ◌/◌, Bool, true, false, if◌then◌else◌, ◌==◌, ◌&&◌, nat_le, List, length, take, drop, Option, Some, None, Result, Ok, Err}
 use Rattle.std.specs.List.{slice_get}
+use Rattle.courses.specs.Courses.{Leads}
 use Rattle.mm_base.specs.declared.volume.File.{File}
 use Rattle.mm_base.specs.declared.volume.Section.{Section}
 use Rattle.mm_base.specs.declared.volume.SectionFault.{SectionFault}
@@ -45,12 +46,15 @@ up_to_4 n = 4 * ((n + 3) / 4)
 abbrev pub section_behind : List ℕ → ℕ → ℕ
 section_behind body at = up_to_4 (at + section_size body at)
 
+-- This section stands at a place of a body, which begins at this place of the bytes.
+pub record HoldsSection (body : List ℕ) (begin at : ℕ) (section : Section) : Type 0 where
+  pub room : nat_le (at + 4) (length body) ≡ true
+  pub whole : has_section body at ≡ true
+  pub is : section ≡ section_at body begin at
+
 -- Sections stand one behind another from a place of a body on, and lead to another one.
 abbrev pub SectionsLead : List ℕ → ℕ → ℕ → List Section → ℕ → Type 0
-SectionsLead body begin at [] to = at ≡ to
-SectionsLead body begin at (section ∷ sections) to =
-    (nat_le (at + 4) (length body) ≡ true) × (has_section body at ≡ true) × (section ≡ section_at body begin at)
-    × SectionsLead body begin (section_behind body at) sections to
+SectionsLead body begin at sections to = Leads (HoldsSection body begin) (λ place section. section_behind body place) at sections to
 
 -- A place of a body is reached by so many sections.
 pub record Reaches (body : List ℕ) (begin : ℕ) (sections : List Section) (to : ℕ) : Type 0 where

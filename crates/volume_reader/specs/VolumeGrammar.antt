@@ -1,11 +1,12 @@
 -- The grammar of volumes: a header that passes its checks, and spans from the first place on, up to the place where files end.
-use Rattle.std.specs.Prelude.{◌≡◌, ◌⊎◌, ℕ, ◌+◌, true, false, ◌&&◌, not, List, [], ◌∷◌, ◌++◌, take, Some, None}
-use Rattle.mm_base.specs.Checks.{Check}
+use Rattle.std.specs.Prelude.{◌≡◌, ◌⊎◌, ℕ, ◌+◌, true, false, ◌&&◌, not, List, [], ◌∷◌, ◌++◌, take, None}
+use Rattle.courses.specs.Courses.{Leads}
+use Rattle.courses.specs.FirstCheck.{FailsFirst}
 use Rattle.mm_base.specs.declared.volume.File.{File}
 use Rattle.mm_base.specs.declared.volume.Volume.{Volume}
 use Rattle.mm_base.specs.declared.volume.VolumeKind.{VolumeKind}
 use Rattle.mm_base.specs.declared.volume.VolumeKind.TheVariants.{FileSum, FileSize}
-use Rattle.volume_reader.specs.VolumeHeader.{volume_length, is_ffs3, first_failing, first_place, erase_polarity, up_to_8}
+use Rattle.volume_reader.specs.VolumeHeader.{volume_length, is_ffs3, checks, first_failing, first_place, erase_polarity, up_to_8}
 use Rattle.volume_reader.specs.FileHeader.{Area, state_at, says_large, is_large, size_at, has_room, header_sum_is_zero, size_fits, file_at}
 use Rattle.volume_reader.specs.declared.file_state.FileState.TheVariants.{Free, HeaderConstruction, HeaderValid, DataValid, MarkedForUpdate, Deleted, HeaderInvalid}
 use Rattle.volume_reader.specs.declared.volume_fault.VolumeFault.{VolumeFault}
@@ -47,9 +48,8 @@ place_behind area at Gone = up_to_8 (at + size_at area at)
 place_behind area at Counts = up_to_8 (at + size_at area at)
 
 -- Spans stand one behind another from a place on, and lead to another one.
-abbrev pub Leads : Area → ℕ → List Span → ℕ → Type 0
-Leads area at [] to = at ≡ to
-Leads area at (span ∷ spans) to = StandsAt area at span × Leads area (place_behind area at span) spans to
+abbrev pub SpansLead : Area → ℕ → List Span → ℕ → Type 0
+SpansLead area at spans to = Leads (StandsAt area) (place_behind area) at spans to
 
 -- the file of a span that counts
 abbrev pub files_of : Area → ℕ → Span → List File
@@ -70,7 +70,7 @@ pub record IsVolume (bytes : List ℕ) (volume : Volume) : Type 0 where
   pub system : volume.ffs3 ≡ is_ffs3 bytes
   pub spans : List Span
   pub end : ℕ
-  pub leads : Leads (area_of bytes) (first_place bytes) spans end
+  pub leads : SpansLead (area_of bytes) (first_place bytes) spans end
   pub ends : EndsAt (area_of bytes) end
   pub files : volume.files ≡ files_in (area_of bytes) (first_place bytes) spans
 
@@ -104,17 +104,14 @@ abbrev pub IsRefusedAt : Area → ℕ → VolumeKind → Type 0
 IsRefusedAt area at kind = IsWritten area at × IsBadAt area at kind
 
 -- the header fails a check, and none in front of it
-pub record HasBadHeader (bytes : List ℕ) (fault : VolumeFault) : Type 0 where
-  pub check : Check VolumeKind
-  pub first : first_failing bytes ≡ Some check
-  pub at : fault.at ≡ check.at
-  pub kind : fault.kind ≡ check.kind
+abbrev pub HasBadHeader : List ℕ → VolumeFault → Type 0
+HasBadHeader bytes fault = FailsFirst (checks bytes) fault.kind fault.at
 
 -- the header passes, spans lead to a place, and what stands there is refused
 pub record HasBadFile (bytes : List ℕ) (fault : VolumeFault) : Type 0 where
   pub header : first_failing bytes ≡ None
   pub spans : List Span
-  pub leads : Leads (area_of bytes) (first_place bytes) spans fault.at
+  pub leads : SpansLead (area_of bytes) (first_place bytes) spans fault.at
   pub refused : IsRefusedAt (area_of bytes) fault.at fault.kind
 
 -- the first fault of bytes that are no volume

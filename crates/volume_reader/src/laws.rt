@@ -1,5 +1,6 @@
 //! Laws of the grammar of volumes and sections.
 ghost use Rattle.volume_reader.specs.VolumeLaws.{VolumeOrFault, NeverBoth, OneVolume, OneFault, SamePastEnd, SameWithMore, SameBeforeCut, LiesInBytes, FilesLieInVolume};
+ghost use Rattle.volume_reader.specs.FileLaws.{FilesAreAligned, FilesLieApart, FilesAreWhole, HighestBitDecides, NoBitIsFree};
 ghost use Rattle.volume_reader.specs.SectionLaws.{ListOrRefusal, NeverListAndRefusal, OneList, OneRefusal, NumbersList, NumbersRefusal, WalkGivesSections, WalkMeetsRefusal};
 
 /// Bytes are one volume or have one fault, and never both.
@@ -21,6 +22,19 @@ pub fn same_past_end()
 pub fn files_lie_in_volume()
     ensures length { LiesInBytes }
     ensures files { FilesLieInVolume }
+{}
+
+/// The files of a volume stand at multiples of 8, one after another, and each is its header and its body.
+pub fn where_files_stand()
+    ensures aligned { FilesAreAligned }
+    ensures apart { FilesLieApart }
+    ensures whole { FilesAreWhole }
+{}
+
+/// The highest state bit that is set decides the state of a file.
+pub fn highest_bit_decides()
+    ensures some { HighestBitDecides }
+    ensures none { NoBitIsFree }
 {}
 
 /// The sections of a body are one list, or one is refused behind some, and never both.

@@ -13,6 +13,7 @@ pub mod laws;
 mod reading;
 mod section_contents;
 mod section_of_file;
+mod section_search;
 #[cfg(test)]
 mod section_tests;
 mod section_walk;
@@ -25,5 +26,6 @@ pub use mm_base::{File, Section, SectionFault, Volume, VolumeKind};
 pub use reading::read_volume;
 pub use section_contents::Contents;
 pub use section_of_file::sections;
+pub use section_search::{any_of, first_of};
 pub use section_walk::Sections;
 pub use volume_fault::{VolumeEnd, VolumeFault};

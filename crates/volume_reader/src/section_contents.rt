@@ -1,9 +1,9 @@
 //! What sections tell together.
-ghost use Rattle.std.specs.Prelude.{◌≡◌, ◌==◌, ◌||◌, [], ◌∷◌, ◌++◌, List, None, Some, if◌then◌else◌};
-ghost use Rattle.std.specs.Option.{option_or};
+ghost use Rattle.std.specs.Prelude.{◌≡◌, ◌==◌, ◌||◌, [], ◌∷◌, ◌++◌, List};
 ghost use Rattle.mm_base.specs.declared.volume.Section.{Section as SectionValue};
 ghost use Rattle.volume_reader.specs.Contents.{contents_of};
 
+use crate::section_search::first_among;
 use mm_base::Section;
 
 /// EFI_SECTION_COMPRESSION: the type of a section that is compressed.
@@ -35,16 +35,6 @@ fn is_among(kind: u8, others: bool, section: Section) -> bool
     others || section.kind == kind
 }
 
-/// The first section of a type, where this one stands behind others.
-fn first_of(kind: u8, others: Option<Section>, section: Section) -> Option<Section>
-    ensures { result ≡ option_or others (if section.kind == kind then Some section else None) }
-{
-    if others.is_none() && section.kind == kind {
-        return Some(section);
-    }
-    others
-}
-
 impl Contents {
     /// What no section tells.
     pub(crate) fn none() -> Contents
@@ -65,8 +55,8 @@ impl Contents {
         Contents {
             compressed: is_among(COMPRESSION, self.compressed, section),
             guid_defined: is_among(GUID_DEFINED, self.guid_defined, section),
-            image: first_of(PE32, self.image, section),
-            depex: first_of(MM_DEPEX, self.depex, section),
+            image: first_among(PE32, self.image, section),
+            depex: first_among(MM_DEPEX, self.depex, section),
         }
     }
 }

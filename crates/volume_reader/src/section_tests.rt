@@ -1,5 +1,5 @@
 //! Sections of files. What is expected was worked out from the rules of sections, apart from this reader.
-use crate::{File, Sections, sections};
+use crate::{File, Sections, any_of, first_of, sections};
 use mm_base::Guid;
 
 /// The most bytes that the reader takes.
@@ -166,6 +166,50 @@ fn finds_sections(rt: HostRuntime) {
     let wrong = CASES
         .iter()
         .find(|case| !is_right(case) || !is_walked(case))
+        .map(|case| case.name);
+    assert_eq!(rt; wrong, None);
+}
+
+/// The place of the first section of a type, or None where no other is; and the place of a fault.
+fn first_place(bytes: &[u8], file: &File, kind: u8) -> Result<Option<u32>, u32> {
+    let begin = file.body_at as usize;
+    if bytes.len() > MOST_BYTES || begin > bytes.len() || file.body as usize > bytes.len() - begin {
+        return Err(u32::MAX);
+    }
+    match first_of(bytes, file, kind) {
+        Ok(section) => Ok(section.map(|s| s.at)),
+        Err(fault) => Err(fault.at),
+    }
+}
+
+/// Whether there is a section of a type; None at a fault.
+fn is_there(bytes: &[u8], file: &File, kind: u8) -> Option<bool> {
+    let begin = file.body_at as usize;
+    if bytes.len() > MOST_BYTES || begin > bytes.len() || file.body as usize > bytes.len() - begin {
+        return None;
+    }
+    any_of(bytes, file, kind).ok()
+}
+
+/// What has to be found by a type: the first in the table, or the fault that stands after all.
+fn is_found_by_type(case: &Case, kind: u8) -> bool {
+    let Some(file) = file_of(case) else {
+        return false;
+    };
+    let first = case.sections.iter().find(|s| s.0 == kind).map(|s| s.1);
+    let place = first_place(case.bytes, &file, kind);
+    let there = is_there(case.bytes, &file, kind);
+    match case.fault {
+        Some(at) => place == Err(at) && there.is_none(),
+        None => place == Ok(first) && there == Some(first.is_some()),
+    }
+}
+
+#[test]
+fn finds_sections_by_type(rt: HostRuntime) {
+    let wrong = CASES
+        .iter()
+        .find(|case| !is_found_by_type(case, 0x19) || !is_found_by_type(case, 0x11))
         .map(|case| case.name);
     assert_eq!(rt; wrong, None);
 }

@@ -1,23 +1,16 @@
-use Rattle.std.proofs.Common.{ℕ, ◌+◌, ◌-◌, List, ◌∷◌, [], ◌++◌, sym, subst}
+use Rattle.std.proofs.Common.{List, subst, sym}
 use Rattle.depex.specs.declared.item.Item.{Item}
-use Rattle.depex.specs.Trees.{taken_by}
-use Rattle.depex.proofs.WalkLemmas.{Walked, walked_more, walked_near, walked_ends}
+use Rattle.depex.proofs.WalkLemmas.{Walked, takes_more, ends_at}
 use Rattle.depex.proofs.reading.read_items.Goals as goal
 
-pub returns-in-End-clause-condition : goal.returns-in-End-clause-condition
-returns-in-End-clause-condition c =
-    walked_ends c.args.bytes.now c.loop-items.items c.loop-items.operands c.loop-items.at c.loop-items.invariant.walked c.in-End.ensures
+pub loop-item-preserved : goal.loop-item-preserved
+loop-item-preserved c =
+    let l = c.loop-item in
+    let on = takes_more c.args.bytes.now l.walk c.next_item.new.self l.items _ _ l.invariant.bytes l.invariant.walked c.in-Ok-Some.ensures c.in-Ok-Some.field-0-is in
+    let Q : List Item → Type 0 = λ read. Walked read c.next_item.new.self in
+    record { bytes = on.0; walked = subst Q (sym c.in_ok-push-in-Ok-Some.ensures.ok) on.1 }
 
-pub loop-items-preserved : goal.loop-items-preserved
-loop-items-preserved c =
-    let bytes = c.args.bytes.now in
-    let l = c.loop-items in
-    let item = c.in-Next.item in
-    let count = l.operands - c.takes.result + 1 in
-    let place = l.at + c.len-at.result in
-    let more = walked_more bytes l.items l.operands l.at item l.invariant.walked c.in-Next.ensures in
-    let P : List Item → Type 0 = λ read. Walked bytes read count place in
-    let Q : ℕ → Type 0 = λ takes. Walked bytes (l.items ++ item ∷ []) (l.operands - takes + 1) place in
-    let R : ℕ → Type 0 = λ len. Walked bytes (l.items ++ item ∷ []) (l.operands - taken_by item + 1) (l.at + len) in
-    let walked = subst P (sym c.in_ok-push-in-Next.ensures.ok) (subst Q (sym c.takes.ensures) (subst R (sym c.len-at.ensures) more)) in
-    record { walked = walked; near = walked_near bytes _ _ _ walked }
+pub returns-in-Ok-None-clause-condition : goal.returns-in-Ok-None-clause-condition
+returns-in-Ok-None-clause-condition c =
+    let l = c.loop-item in
+    ends_at c.args.bytes.now l.walk c.next_item.new.self l.items _ l.invariant.bytes l.invariant.walked c.in-Ok-None.ensures c.in-Ok-None.field-0-is

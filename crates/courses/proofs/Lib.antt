@@ -1,0 +1,4 @@
+pub mod CheckLemmas
+pub mod CourseLemmas
+pub mod MeasureLemmas
+pub mod VerdictLemmas

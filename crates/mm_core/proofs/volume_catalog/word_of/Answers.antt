@@ -1,7 +1,0 @@
-use Rattle.mm_core.proofs.CatalogLemmas.{driver_has_word}
-use Rattle.mm_core.proofs.volume_catalog.word_of.Goals as goal
-
-pub returns-then-file-eq-MM_STANDALONE : goal.returns-then-file-eq-MM_STANDALONE
-returns-then-file-eq-MM_STANDALONE c =
-    driver_has_word c.args.bytes.now c.args.earlier.now c.args.file.now c.driver_word.result
-    c.if-file-eq-MM_STANDALONE.true c.driver_word.ensures
