@@ -59,7 +59,7 @@ module _ (by : ℕ) where
 -- ---- all fixups of an image pass
 
 module _ (bytes : List ℕ) where
-  abbrev passes_here : Fixup → Bool
+  abbrev pub passes_here : Fixup → Bool
   passes_here fixup = fixup_passes (image_size bytes) (relocs_of bytes) fixup
 
   blocks_pass : (at : ℕ) (blocks : List Block) (to : ℕ) → Leads bytes at blocks to → list_all passes_here (fixups_in blocks) ≡ true
@@ -70,7 +70,7 @@ module _ (bytes : List ℕ) where
       list_all-append passes_here block.fixups (fixups_in blocks)
       ∙ and_from _ _ here (blocks_pass (at + block.size) blocks to leads.1)
 
-  all_pass_there : (fixups : List Fixup) → AreFixups bytes fixups → list_all passes_here fixups ≡ true
+  pub all_pass_there : (fixups : List Fixup) → AreFixups bytes fixups → list_all passes_here fixups ≡ true
   all_pass_there fixups are =
       ap (list_all passes_here) are.are ∙ blocks_pass (relocs_of bytes).base are.blocks are.end are.leads
 
