@@ -1,5 +1,5 @@
 -- Fixups for no difference change nothing.
-use Rattle.std.proofs.Common.{◌≡◌, inl, inr, ℕ, zero, suc, ◌+◌, ◌-◌, ◌*◌, ◌/◌, ◌%◌, ◌^◌, ◌≤◌, ◌<◌, Bool, true, false, if◌then◌else◌, nat_lt, List, [], ◌∷◌, ◌++◌, map, find, length, take, drop, get_or, fold, Option, Some, None, refl, sym, ap, ◌∙◌, subst, arith, append_assoc, length-drop}
+use Rattle.std.proofs.Common.{◌≡◌, inl, inr, ℕ, ◌+◌, ◌-◌, ◌%◌, ◌^◌, ◌≤◌, ◌<◌, Bool, true, false, if◌then◌else◌, nat_lt, List, [], ◌∷◌, ◌++◌, find, length, take, drop, get_or, fold, Option, Some, None, refl, sym, ap, ◌∙◌, subst, arith, append_assoc, length-drop}
 use Rattle.std.specs.Int.{w16, w32, w64, to_le_bytes}
 use Rattle.std.specs.List.{All, list_all, range_with_len}
 use Rattle.std.specs.Option.{option_map_or}
@@ -7,13 +7,13 @@ use Rattle.std.proofs.lemmas.Bool.{and_parts, cases_lt}
 use Rattle.std.proofs.lemmas.List.{length-take-le, take-append-drop, drop-drop, get_or_past}
 use Rattle.std.proofs.lemmas.List.Elements.{All-take, All-drop, All-get_or, All-map}
 use Rattle.std.proofs.lemmas.Nat.{le_bytes_2, le_bytes_4, le_bytes_8}
-use Rattle.mm_base.specs.Numbers.{number_of, number_in}
+use Rattle.mm_base.specs.Numbers.{number_of}
 use Rattle.mm_base.specs.declared.image.Image.{Image}
 use Rattle.mm_base.specs.declared.image.Part.{Part}
 use Rattle.pe_loader.specs.Headers.{image_size, headers_size, relocs_of}
 use Rattle.pe_loader.specs.Sections.{parts}
 use Rattle.pe_loader.specs.Forms.{copies_to, plain_byte, plain_form}
-use Rattle.pe_loader.specs.Fixups.{fixup_passes, StaysWithin}
+use Rattle.pe_loader.specs.Fixups.{StaysWithin}
 use Rattle.pe_loader.specs.Images.{IsImage}
 use Rattle.pe_loader.specs.Loading.{difference, put, fixed, loaded}
 use Rattle.pe_loader.specs.declared.fixup.Fixup.{Fixup}

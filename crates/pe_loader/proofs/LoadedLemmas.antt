@@ -1,6 +1,6 @@
 -- The loaded form of an image is one, and has its size.
-use Rattle.std.proofs.Common.{◌≡◌, ℕ, ◌+◌, ◌*◌, ◌/◌, ◌%◌, ◌^◌, ◌≤◌, Bool, true, List, [], ◌∷◌, ◌++◌, length, take, drop, fold, refl, sym, ap, ◌∙◌, subst, arith, length-append, length-drop}
-use Rattle.std.specs.Int.{Width, w16, w32, w64, byte_len, to_le_bytes}
+use Rattle.std.proofs.Common.{◌≡◌, ℕ, ◌+◌, ◌/◌, ◌%◌, ◌^◌, ◌≤◌, Bool, true, List, [], ◌∷◌, ◌++◌, length, take, drop, fold, refl, sym, ap, ◌∙◌, subst, arith, length-append, length-drop}
+use Rattle.std.specs.Int.{w16, w32, w64, to_le_bytes}
 use Rattle.std.specs.List.{list_all}
 use Rattle.std.proofs.lemmas.Bool.{and_parts, and_from}
 use Rattle.std.proofs.lemmas.List.{length-take-le}
@@ -10,9 +10,9 @@ use Rattle.mm_base.specs.Numbers.{number_in}
 use Rattle.mm_base.specs.declared.image.Image.{Image}
 use Rattle.pe_loader.specs.Headers.{image_size, relocs_of}
 use Rattle.pe_loader.specs.Forms.{plain_byte, plain_form}
-use Rattle.pe_loader.specs.Fixups.{fixup_passes, StaysWithin, Block, block_at, Leads, fixups_in, AreFixups}
+use Rattle.pe_loader.specs.Fixups.{fixup_passes, StaysWithin, Block, Leads, fixups_in, AreFixups}
 use Rattle.pe_loader.specs.Images.{IsImage, IsImageOf}
-use Rattle.pe_loader.specs.Loading.{difference, put, raised, fixed, loaded, IsLoaded}
+use Rattle.pe_loader.specs.Loading.{difference, put, fixed, loaded, IsLoaded}
 use Rattle.pe_loader.specs.declared.fixup.Fixup.{Fixup}
 use Rattle.pe_loader.specs.declared.fixup_kind.FixupKind.{FixupKind}
 use Rattle.pe_loader.specs.declared.fixup_kind.FixupKind.TheVariants.{Absolute, High, Low, HighLow, Dir64, Unknown}
