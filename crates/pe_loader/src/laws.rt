@@ -39,7 +39,7 @@ pub fn copies_are_the_file()
 
 /// An image is loaded at an address in one form, of its size.
 pub fn one_loaded_form()
-    ensures either { LoadedIsThere }
+    ensures some { LoadedIsThere }
     ensures one { OneLoadedForm }
     ensures size { LoadedHasItsSize }
 {}
