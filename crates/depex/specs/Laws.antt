@@ -1,8 +1,8 @@
 -- Laws of dependency expressions: bytes are one expression, or have one fault, and not both; and items are those of one tree.
-use Rattle.std.specs.Prelude.{◌≡◌, ◌⊎◌, ℕ, List, ◌++◌, ◌≤◌, length, take}
+use Rattle.std.specs.Prelude.{◌≡◌, ◌⊎◌, ℕ, ◌+◌, ◌-◌, max, List, [], ◌∷◌, ◌++◌, ◌≤◌, length, take}
 use Rattle.mm_base.specs.declared.expression.DepexFault.{DepexFault}
 use Rattle.depex.specs.declared.item.Item.{Item}
-use Rattle.depex.specs.Trees.{Tree, postfix}
+use Rattle.depex.specs.Trees.{Tree, postfix, need, taken_by}
 use Rattle.depex.specs.Expressions.{Expression, spelled, IsExpression, HasFault}
 
 -- bytes begin with an expression, or have a fault
@@ -41,3 +41,12 @@ SameWhereCut =
 -- A tree is known by its items, whatever stands in front of them.
 abbrev pub OneTree : Type 0
 OneTree = (some others : List Item) (one other : Tree) → some ++ postfix one ≡ others ++ postfix other → one ≡ other
+
+-- the most operands that stand at once where items are worked off one after another, after so many
+abbrev pub most_at_once : ℕ → List Item → ℕ
+most_at_once n [] = n
+most_at_once n (item ∷ items) = max n (most_at_once (n - taken_by item + 1) items)
+
+-- The need of a tree is how many stand at once on top of those that stood there before it.
+abbrev pub NeedIsExact : Type 0
+NeedIsExact = (tree : Tree) (n : ℕ) → most_at_once n (postfix tree) ≡ n + need tree

@@ -1,5 +1,5 @@
 //! Laws of dependency expressions. These functions do nothing: their contracts are the laws.
-ghost use Rattle.depex.specs.Laws.{ExpressionOrFault, NeverBoth, OneExpression, OneFault, SameWithMore, SameWhereCut, OneTree};
+ghost use Rattle.depex.specs.Laws.{ExpressionOrFault, NeverBoth, OneExpression, OneFault, SameWithMore, SameWhereCut, OneTree, NeedIsExact};
 
 /// Bytes begin with one expression or have one fault, and never both.
 pub fn expression_or_fault()
@@ -18,4 +18,9 @@ pub fn same_past_end()
 /// Two trees whose items end one list are one.
 pub fn one_tree()
     ensures { OneTree }
+{}
+
+/// The need of a tree is the most operands that stand at once where its items are worked off.
+pub fn need_is_exact()
+    ensures { NeedIsExact }
 {}

@@ -4,7 +4,7 @@ ghost use Rattle.file_words.specs.CatalogLaws.{DriversDiffer, StartedDiffer, One
 
 /// The files of a volume have one list of words, and only one.
 pub fn one_catalog()
-    ensures either { CatalogIsThere }
+    ensures some { CatalogIsThere }
     ensures one { OneCatalog }
 {}
 

@@ -1,7 +1,7 @@
 -- What an image says of its size, its entry and its sections.
-use Rattle.std.proofs.Common.{◌≡◌, ◌≢◌, ◌↔◌, inl, inr, ℕ, zero, suc, ◌+◌, ◌-◌, ◌%◌, ◌≤◌, ◌<◌, Bool, true, false, ◌==◌, ◌||◌, ◌&&◌, nat_lt, List, [], ◌∷◌, ◌++◌, map, length, get_or, None, refl, sym, ap, ◌∙◌, subst, arith}
+use Rattle.std.proofs.Common.{◌≡◌, ◌≢◌, ◌↔◌, inl, inr, ℕ, zero, suc, ◌+◌, ◌-◌, ◌%◌, ◌≤◌, ◌<◌, Bool, true, false, ◌==◌, ◌||◌, ◌&&◌, nat_lt, List, [], ◌∷◌, ◌++◌, map, get_or, None, sym, ap, ◌∙◌, arith}
 use Rattle.std.specs.List.{range_with_len, list_any}
-use Rattle.std.proofs.lemmas.Bool.{cases_Bool, cases_eq, cond-true, cond-false, and_parts, ne_eqb}
+use Rattle.std.proofs.lemmas.Bool.{cases_Bool, cond-true, cond-false, and_parts, ne_eqb}
 use Rattle.std.proofs.lemmas.Bool.Decides.{nat_tests}
 use Rattle.std.proofs.lemmas.List.FromFn.{get_or-map-range_with_len}
 use Rattle.mm_base.proofs.CheckLemmas.{AllPass, all_pass}
@@ -15,7 +15,7 @@ use Rattle.pe_loader.specs.Sections.{part_at, parts, range_of, overlaps_first, h
 use Rattle.pe_loader.specs.Forms.{copies_to, plain_byte, plain_form}
 use Rattle.pe_loader.specs.Images.{image_of, IsImage}
 use Rattle.pe_loader.specs.declared.fixup.Fixup.{Fixup}
-use Rattle.pe_loader.proofs.FormLemmas.{copied_within, plain_of_part}
+use Rattle.pe_loader.proofs.FormLemmas.{plain_of_part}
 use Rattle.pe_loader.proofs.ImageLemmas.{laid_out_of, parts_of, size_of, headers_of}
 use Rattle.pe_loader.proofs.LoadLemmas.{copy_in_image}
 use Rattle.pe_loader.proofs.SectionLemmas.{overlaps_later}

@@ -9,3 +9,4 @@ pub mod ImageLemmas
 pub mod LoadLemmas
 pub mod EntryLemmas
 pub mod LoadedLemmas
+pub mod HomeLemmas

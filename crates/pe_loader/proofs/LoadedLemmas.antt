@@ -1,6 +1,6 @@
 -- The loaded form of an image is one, and has its size.
-use Rattle.std.proofs.Common.{◌≡◌, ℕ, ◌+◌, ◌*◌, ◌/◌, ◌%◌, ◌^◌, ◌≤◌, Bool, true, List, [], ◌∷◌, ◌++◌, length, take, drop, fold, refl, sym, ap, ◌∙◌, subst, arith, length-append, length-drop}
-use Rattle.std.specs.Int.{Width, w16, w32, w64, byte_len, to_le_bytes}
+use Rattle.std.proofs.Common.{◌≡◌, ℕ, ◌+◌, ◌/◌, ◌%◌, ◌^◌, ◌≤◌, Bool, true, List, [], ◌∷◌, ◌++◌, length, take, drop, fold, refl, sym, ap, ◌∙◌, subst, arith, length-append, length-drop}
+use Rattle.std.specs.Int.{w16, w32, w64, to_le_bytes}
 use Rattle.std.specs.List.{list_all}
 use Rattle.std.proofs.lemmas.Bool.{and_parts, and_from}
 use Rattle.std.proofs.lemmas.List.{length-take-le}
@@ -10,9 +10,9 @@ use Rattle.mm_base.specs.Numbers.{number_in}
 use Rattle.mm_base.specs.declared.image.Image.{Image}
 use Rattle.pe_loader.specs.Headers.{image_size, relocs_of}
 use Rattle.pe_loader.specs.Forms.{plain_byte, plain_form}
-use Rattle.pe_loader.specs.Fixups.{fixup_passes, StaysWithin, Block, block_at, Leads, fixups_in, AreFixups}
+use Rattle.pe_loader.specs.Fixups.{fixup_passes, StaysWithin, Block, Leads, fixups_in, AreFixups}
 use Rattle.pe_loader.specs.Images.{IsImage, IsImageOf}
-use Rattle.pe_loader.specs.Loading.{difference, put, raised, fixed, loaded, IsLoaded}
+use Rattle.pe_loader.specs.Loading.{difference, put, fixed, loaded, IsLoaded}
 use Rattle.pe_loader.specs.declared.fixup.Fixup.{Fixup}
 use Rattle.pe_loader.specs.declared.fixup_kind.FixupKind.{FixupKind}
 use Rattle.pe_loader.specs.declared.fixup_kind.FixupKind.TheVariants.{Absolute, High, Low, HighLow, Dir64, Unknown}
@@ -59,7 +59,7 @@ module _ (by : ℕ) where
 -- ---- all fixups of an image pass
 
 module _ (bytes : List ℕ) where
-  abbrev passes_here : Fixup → Bool
+  abbrev pub passes_here : Fixup → Bool
   passes_here fixup = fixup_passes (image_size bytes) (relocs_of bytes) fixup
 
   blocks_pass : (at : ℕ) (blocks : List Block) (to : ℕ) → Leads bytes at blocks to → list_all passes_here (fixups_in blocks) ≡ true
@@ -70,7 +70,7 @@ module _ (bytes : List ℕ) where
       list_all-append passes_here block.fixups (fixups_in blocks)
       ∙ and_from _ _ here (blocks_pass (at + block.size) blocks to leads.1)
 
-  all_pass_there : (fixups : List Fixup) → AreFixups bytes fixups → list_all passes_here fixups ≡ true
+  pub all_pass_there : (fixups : List Fixup) → AreFixups bytes fixups → list_all passes_here fixups ≡ true
   all_pass_there fixups are =
       ap (list_all passes_here) are.are ∙ blocks_pass (relocs_of bytes).base are.blocks are.end are.leads
 

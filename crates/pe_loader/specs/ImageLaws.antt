@@ -1,11 +1,11 @@
 -- Laws of images: bytes are one image, or have one fault, and not both; and the sections of an image lie in it, apart from one another.
-use Rattle.std.specs.Prelude.{◌≡◌, ◌≢◌, ◌⊎◌, ◌↔◌, ℕ, ◌+◌, ◌-◌, ◌%◌, ◌≤◌, ◌<◌, true, List, length, slice_index}
+use Rattle.std.specs.Prelude.{◌≡◌, ◌≢◌, ◌⊎◌, ◌↔◌, ℕ, ◌+◌, ◌-◌, ◌%◌, ◌^◌, ◌≤◌, ◌<◌, true, List, All, length, slice_index}
 use Rattle.mm_base.specs.Range.{Has}
 use Rattle.mm_base.specs.declared.image.Image.{Image}
 use Rattle.mm_base.specs.declared.image.PeFault.{PeFault}
 use Rattle.mm_base.specs.declared.image.Part.{Part}
 use Rattle.pe_loader.specs.Forms.{copies_to, plain_form}
-use Rattle.pe_loader.specs.Loading.{IsLoaded}
+use Rattle.pe_loader.specs.Loading.{loaded, IsLoaded}
 use Rattle.pe_loader.specs.Sections.{part_at, range_of, overlaps_first, holds_code}
 use Rattle.pe_loader.specs.Images.{IsImage, IsImageOf, HasFault}
 use Rattle.pe_loader.specs.declared.fixup.Fixup.{Fixup}
@@ -100,3 +100,12 @@ OneLoadedForm = (bytes : List ℕ) (base : ℕ) (one other : List ℕ) → IsLoa
 abbrev pub LoadedHasItsSize : Type 0
 LoadedHasItsSize =
     (bytes : List ℕ) (image : Image) (base : ℕ) (form : List ℕ) → IsImageOf bytes image → IsLoaded bytes base form → length form ≡ image.size
+
+-- At the address that it was linked for, an image is loaded in its plain form.
+abbrev pub PlainAtHome : Type 0
+PlainAtHome =
+    (bytes : List ℕ) (image : Image) (fixups : List Fixup)
+    → All (λ byte. byte < 256) bytes
+    → image.base < 2 ^ 64
+    → IsImage bytes image fixups
+    → loaded bytes image fixups image.base ≡ plain_form bytes

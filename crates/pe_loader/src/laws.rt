@@ -1,6 +1,6 @@
 //! Laws of images. These functions do nothing: their contracts are the laws.
 ghost use Rattle.pe_loader.specs.ImageLaws.{ImageOrFault, NeverBoth, OneImage, OneFault, SectionsLieWithin, SectionsLieApart, SizeIsBounded};
-ghost use Rattle.pe_loader.specs.ImageLaws.{EntryIsCode, EntryIsWithin, OverlapIsAByte, CopiesAreTheFile, LoadedIsThere, OneLoadedForm, LoadedHasItsSize};
+ghost use Rattle.pe_loader.specs.ImageLaws.{EntryIsCode, EntryIsWithin, OverlapIsAByte, CopiesAreTheFile, LoadedIsThere, OneLoadedForm, LoadedHasItsSize, PlainAtHome};
 
 /// Bytes are one image with one list of fixups, or have one fault, and never both.
 pub fn image_or_fault()
@@ -39,7 +39,12 @@ pub fn copies_are_the_file()
 
 /// An image is loaded at an address in one form, of its size.
 pub fn one_loaded_form()
-    ensures either { LoadedIsThere }
+    ensures some { LoadedIsThere }
     ensures one { OneLoadedForm }
     ensures size { LoadedHasItsSize }
+{}
+
+/// Loaded at the address that it was linked for, an image is its plain form.
+pub fn plain_at_home()
+    ensures { PlainAtHome }
 {}

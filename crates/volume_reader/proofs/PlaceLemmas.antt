@@ -1,16 +1,15 @@
 -- Where the files of a volume stand, and which state their bits tell.
-use Rattle.std.proofs.Common.{◌≡◌, ℕ, zero, suc, ◌+◌, ◌*◌, ◌/◌, ◌%◌, ◌^◌, ◌≤◌, ◌<◌, List, [], ◌∷◌, Some, refl, sym, ◌∙◌, subst, arith}
+use Rattle.std.proofs.Common.{◌≡◌, ℕ, zero, suc, ◌+◌, ◌%◌, ◌≤◌, ◌<◌, List, [], ◌∷◌, Some, sym, subst, arith}
 use Rattle.std.specs.List.{All, AllPairs, slice_get}
-use Rattle.std.proofs.lemmas.List.Elements.{All-nil, All-cons, All-weaker, All-from_recursion}
+use Rattle.std.proofs.lemmas.List.Elements.{All-nil, All-cons, All-weaker}
 use Rattle.std.proofs.lemmas.List.Kept.{AllPairs-cons}
 use Rattle.std.proofs.lemmas.Bool.Decides.{nat_tests}
 use Rattle.mm_base.specs.declared.volume.File.{File}
 use Rattle.mm_base.specs.declared.volume.Volume.{Volume}
-use Rattle.volume_reader.specs.FileHeader.{Area, size_at, header_size, state_of, file_at}
+use Rattle.volume_reader.specs.FileHeader.{Area, size_at, state_of, file_at}
 use Rattle.volume_reader.specs.FileLaws.{states, IsHighestBit}
 use Rattle.volume_reader.specs.VolumeHeader.{first_place, up_to_8}
 use Rattle.volume_reader.specs.VolumeGrammar.{area_of, Span, HeaderAlone, Gone, Counts, HasHeader, SpansLead, place_behind, files_in, IsVolume}
-use Rattle.volume_reader.proofs.WalkLemmas.{moves_on}
 
 -- ---- where files stand
 
