@@ -1,5 +1,5 @@
 -- The instruction that bytes begin with, as a function, is the one that their spelling tells.
-use Rattle.std.proofs.Common.{◌≡◌, ℕ, zero, suc, ◌+◌, ◌^◌, ◌<◌, ◌≤◌, Bool, true, false, ◌&&◌, ◌==◌, nat_le, if◌then◌else◌, List, [], ◌∷◌, length, take, get_or, is_some, Option, Some, None, Result, Ok, Err, IsErr, IfOk, refl, sym, ap, ◌∙◌, subst, arith}
+use Rattle.std.proofs.Common.{◌≡◌, ℕ, zero, suc, ◌+◌, ◌≤◌, Bool, true, false, ◌&&◌, ◌==◌, nat_le, if◌then◌else◌, List, [], ◌∷◌, length, take, get_or, is_some, Option, Some, None, Result, Ok, Err, IsErr, IfOk, refl, sym, ap, ◌∙◌, subst, arith}
 use Rattle.std.proofs.lemmas.Bool.{and_parts, eqb-true, leb-true, le-leb}
 use Rattle.ebc_decode.specs.declared.ins.Ins.{Ins}
 use Rattle.ebc_decode.specs.declared.head.Head.{Head}

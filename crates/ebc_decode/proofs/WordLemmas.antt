@@ -4,7 +4,6 @@ use Rattle.std.proofs.lemmas.List.{take_at}
 use Rattle.ebc_decode.specs.declared.operand.FieldWidth.{FieldWidth}
 use Rattle.ebc_decode.specs.declared.operand.FieldWidth.TheVariants.{Bits16, Bits32, Bits64}
 use Rattle.ebc_decode.specs.declared.ins.Ins.{Ins}
-use Rattle.ebc_decode.specs.declared.head.Head.{Head}
 use Rattle.ebc_decode.specs.declared.layout.Layout.{Layout}
 use Rattle.ebc_decode.specs.declared.opcode.Opcode.{Opcode}
 use Rattle.ebc_decode.specs.declared.reading.EncodingFault.{EncodingFault}

@@ -1,7 +1,7 @@
 -- The instruction that bytes begin with, as a function of the bytes, for definitions of what byte code does. What it must be is said by
 -- the spellings alone: the laws `decoding` say, both ways, that it is the one instruction with whose spelling the bytes begin. So
 -- nobody needs to read how it is found: among the opcodes of the table, by the number in the first byte and the bits that a row allows.
-use Rattle.std.specs.Prelude.{◌≡◌, ℕ, ◌/◌, ◌%◌, ◌^◌, ◌<◌, Bool, ◌&&◌, ◌==◌, nat_le, if◌then◌else◌}
+use Rattle.std.specs.Prelude.{◌≡◌, ℕ, ◌/◌, ◌%◌, ◌^◌, ◌<◌, ◌==◌, nat_le, if◌then◌else◌}
 use Rattle.std.specs.Prelude.{List, [], ◌∷◌, length, get_or, Option, Some, None, Result, Ok, Err}
 use Rattle.mm_base.specs.declared.operation.AluOp.TheVariants as alu
 use Rattle.mm_base.specs.declared.operation.CmpOp.TheVariants as cmp

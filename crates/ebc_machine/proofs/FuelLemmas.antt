@@ -1,5 +1,5 @@
 -- More fuel changes nothing of an invocation that ended otherwise than by its fuel.
-use Rattle.std.proofs.Common.{◌≡◌, ℕ, zero, suc, ◌+◌, Bool, true, false, if◌then◌else◌, Option, Some, None, refl, subst, sym, arith}
+use Rattle.std.proofs.Common.{◌≡◌, ℕ, zero, suc, ◌+◌, Bool, true, false, if◌then◌else◌, Option, Some, None, refl, arith}
 use Rattle.mm_base.specs.Bus.{Meaning}
 use Rattle.mm_base.specs.declared.bus.Served.{Served}
 use Rattle.mm_base.specs.declared.bus.Served.TheVariants.{Status, Stop, NoMemory}

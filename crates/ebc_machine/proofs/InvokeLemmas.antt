@@ -1,5 +1,5 @@
 -- What each turn of an invocation leaves to do.
-use Rattle.std.proofs.Common.{◌≡◌, ◌⊎◌, inl, inr, ℕ, zero, suc, ◌+◌, Bool, true, false, if◌then◌else◌, Option, Some, None, refl, sym, ap, ◌∙◌, subst, arith}
+use Rattle.std.proofs.Common.{◌≡◌, ◌⊎◌, inl, inr, ℕ, zero, suc, Bool, true, false, if◌then◌else◌, Option, Some, None, refl, sym, ap, ◌∙◌, subst, arith}
 use Rattle.mm_base.specs.Bus.{Meaning, Answers, IsOutOfMemory}
 use Rattle.mm_base.specs.declared.access.Denial.{Denial}
 use Rattle.mm_base.specs.declared.bus.Served.{Served}
@@ -9,7 +9,6 @@ use Rattle.mm_base.specs.declared.invocation.Ended.TheVariants as ended
 use Rattle.mm_base.specs.declared.invocation.FaultKind.{FaultKind}
 use Rattle.mm_base.specs.declared.invocation.FaultKind.TheVariants.{Alignment}
 use Rattle.ebc_machine.specs.declared.regs.Regs.{Regs}
-use Rattle.ebc_machine.specs.declared.turn.Progress.{Progress}
 use Rattle.ebc_machine.specs.declared.turn.Progress.TheVariants as progress
 use Rattle.ebc_machine.specs.Operands.{register_in, with_register, at_address, is_odd}
 use Rattle.ebc_machine.specs.Rows.{Outcome, Goes, Serves, Returns, Denies, Faults}

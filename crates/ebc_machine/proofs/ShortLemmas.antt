@@ -1,5 +1,5 @@
 -- Each instruction takes at most two values, and one that ends in a fault writes nothing.
-use Rattle.std.proofs.Common.{◌≡◌, ℕ, ◌+◌, ◌*◌, ◌%◌, ◌^◌, ◌==◌, Bool, true, false, if◌then◌else◌}
+use Rattle.std.proofs.Common.{ℕ, ◌+◌, ◌*◌, ◌%◌, ◌^◌, ◌==◌, Bool, true, false, if◌then◌else◌}
 use Rattle.mm_base.specs.declared.bus.Target.{Target}
 use Rattle.mm_base.specs.declared.bus.Target.TheVariants as found
 use Rattle.mm_base.specs.declared.invocation.FaultKind.{FaultKind}
@@ -20,7 +20,7 @@ use Rattle.ebc_alu.specs.Results.{result_of}
 use Rattle.ebc_machine.specs.declared.place.Destination.{Destination}
 use Rattle.ebc_machine.specs.declared.place.Destination.TheVariants.{Register, Memory}
 use Rattle.ebc_machine.specs.declared.regs.Regs.{Regs}
-use Rattle.ebc_machine.specs.Operands.{register_in, with_register, raised, is_odd, destination, place_destination, immediate_in}
+use Rattle.ebc_machine.specs.Operands.{with_register, raised, is_odd, destination, place_destination}
 use Rattle.ebc_machine.specs.Rows.{Row, puts}
 use Rattle.ebc_machine.specs.Instructions.{data_bytes, breaks, is_taken, jump_target, lands, enters_code, enters_native, calls_at, returns_to, takes_second_alone, divides_by_zero, puts_result, popped, stacks, row_of}
 use Rattle.ebc_machine.specs.Laws.{IsShort}

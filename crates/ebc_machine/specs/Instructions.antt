@@ -30,7 +30,7 @@ use Rattle.ebc_alu.specs.Index.{offset_of, immediate_of}
 use Rattle.ebc_alu.specs.Reading.{width, low_bits}
 use Rattle.ebc_alu.specs.Results.{result_of}
 use Rattle.ebc_alu.specs.Tests.{test_of}
-use Rattle.ebc_machine.specs.declared.place.Source.TheVariants.{Held, At}
+use Rattle.ebc_machine.specs.declared.place.Source.TheVariants.{At}
 use Rattle.ebc_machine.specs.declared.regs.Regs.{Regs}
 use Rattle.ebc_machine.specs.Operands.{register_in, with_register, at_address, lowered, raised, is_odd, immediate_in, indexed, by_immediate, by_index, by_place, destination, place_destination, by_jump}
 use Rattle.ebc_machine.specs.Rows.{Goes, Serves, Returns, Faults, Row, Takes, Asks, Puts, Comes, low, puts}

@@ -1,5 +1,5 @@
 -- Laws of what byte code does over a bus, whatever the bus: they know only what each of its calls answers and leaves.
-use Rattle.std.specs.Prelude.{◌≡◌, ◌≢◌, ℕ, zero, suc, ◌+◌, List}
+use Rattle.std.specs.Prelude.{◌≡◌, ℕ, zero, suc}
 use Rattle.mm_base.specs.Bus.{Meaning}
 use Rattle.mm_base.specs.declared.invocation.Ended.{Ended}
 use Rattle.mm_base.specs.declared.invocation.Ended.TheVariants as ended
@@ -7,7 +7,6 @@ use Rattle.ebc_decode.specs.declared.ins.Ins.{Ins}
 use Rattle.ebc_machine.specs.declared.regs.Regs.{Regs}
 use Rattle.ebc_machine.specs.Rows.{Outcome, Goes, Serves, Returns, Denies, Faults, Row, Takes, Asks, Puts, Comes}
 use Rattle.ebc_machine.specs.Instructions.{row_of}
-use Rattle.ebc_machine.specs.Invocation.{Final, invoked}
 
 -- the same answer, and the map of what is left
 abbrev pub mapped : {T A B : Type 0} → (A → B) → T × A → T × B

@@ -1,5 +1,5 @@
 -- One instruction over a bus: two bytes are fetched, then all of it, and it does what its row says.
-use Rattle.std.specs.Prelude.{ℕ, ◌+◌, ◌%◌, ◌^◌, List, take, get_or, Option, Some, None}
+use Rattle.std.specs.Prelude.{ℕ, ◌+◌, ◌%◌, ◌^◌, take, get_or, Option, Some, None}
 use Rattle.mm_base.specs.Bus.{Meaning}
 use Rattle.mm_base.specs.declared.invocation.FaultKind.TheVariants.{Encoding}
 use Rattle.ebc_decode.specs.declared.ins.Ins.{Ins}

@@ -1,6 +1,6 @@
 //! Comparisons and arithmetic.
 ghost use Rattle.std.specs.Prelude.{◌≡◌, ◌<◌};
-ghost use Rattle.ebc_decode.specs.Lawful.{IsOperand, IsTarget, IsShort, IsField};
+ghost use Rattle.ebc_decode.specs.Lawful.{IsOperand};
 ghost use Rattle.ebc_machine.specs.Operands.{by_place, place_destination};
 ghost use Rattle.ebc_machine.specs.Instructions.{data_bytes, flags, compares, compares_immediate, takes_second_alone, puts_result, computes};
 ghost use Rattle.ebc_machine.specs.Told.{Does};

@@ -1,7 +1,7 @@
 //! Jumps, calls and returns.
-ghost use Rattle.std.specs.Prelude.{◌≡◌, ◌+◌, ◌*◌, ◌%◌, ◌^◌, ◌<◌};
+ghost use Rattle.std.specs.Prelude.{◌≡◌, ◌%◌, ◌<◌};
 ghost use Rattle.ebc_decode.specs.Lawful.{IsOperand, IsJumpTarget};
-ghost use Rattle.ebc_machine.specs.Operands.{register_in, lowered, raised, is_odd as odd, jump_base, jump_operand, by_jump};
+ghost use Rattle.ebc_machine.specs.Operands.{is_odd as odd, jump_base, jump_operand, by_jump};
 ghost use Rattle.ebc_machine.specs.Instructions.{is_taken as taken, jump_target, lands, jumps, short_jumps, enters, enters_code, calls, returns};
 ghost use Rattle.ebc_machine.specs.Told.{Does};
 

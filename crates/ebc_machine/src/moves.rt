@@ -1,5 +1,4 @@
 //! Moves.
-ghost use Rattle.std.specs.Prelude.{◌≡◌};
 ghost use Rattle.ebc_decode.specs.Lawful.{IsOperand, IsField};
 ghost use Rattle.ebc_decode.specs.Spelling.{bytes_in};
 ghost use Rattle.ebc_machine.specs.Instructions.{moves, moves_signed, moves_natural, moves_immediate, moves_index, moves_relative};

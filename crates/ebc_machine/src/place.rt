@@ -1,15 +1,15 @@
 //! Where an operand's value comes from, and where a result goes.
-ghost use Rattle.std.specs.Prelude.{◌≡◌, ◌^◌, ◌<◌, ◌⊎◌, ℕ, Option};
+ghost use Rattle.std.specs.Prelude.{◌≡◌, ◌<◌};
 ghost use Rattle.mm_base.specs.Bus.{Answers, IsAccessWidth};
 ghost use Rattle.ebc_decode.specs.Lawful.{FitsIn, IsOperand};
 ghost use Rattle.ebc_machine.specs.Operands.{index_in, immediate_in, by_immediate, by_index, destination, IsFieldWidth, IsDestination};
 ghost use Rattle.ebc_machine.specs.Rows.{taken, puts, low};
 ghost use Rattle.ebc_machine.specs.Told.{Does};
 
-use crate::regs::{Regs, STACK};
+use crate::regs::Regs;
 use crate::turn::Progress;
 use ebc_alu::{immediate_value, index_value};
-use ebc_decode::{Operand, Place, Target};
+use ebc_decode::Operand;
 use mm_base::{Bus, Denial};
 
 /// Where a value comes from.

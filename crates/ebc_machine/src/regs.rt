@@ -1,5 +1,5 @@
 //! Registers.
-ghost use Rattle.std.specs.Prelude.{◌≡◌, ◌<◌, set};
+ghost use Rattle.std.specs.Prelude.{◌≡◌, ◌<◌};
 ghost use Rattle.ebc_machine.specs.Operands.{register_in, with_register};
 
 /// How many general registers there are.

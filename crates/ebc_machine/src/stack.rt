@@ -1,9 +1,8 @@
 //! PUSH and POP.
 ghost use Rattle.std.specs.Prelude.{◌≡◌, ◌<◌};
-ghost use Rattle.mm_base.specs.Bus.{IsAccessWidth};
 ghost use Rattle.ebc_decode.specs.Lawful.{IsOperand};
 ghost use Rattle.ebc_machine.specs.Operands.{register_in, with_register, IsStackWidth};
-ghost use Rattle.ebc_machine.specs.Instructions.{pushes, popped, pops, stacks};
+ghost use Rattle.ebc_machine.specs.Instructions.{pushes, pops, stacks};
 ghost use Rattle.ebc_machine.specs.Told.{Does};
 
 use crate::place::{immediate, index, low_part, source_by_immediate, take};

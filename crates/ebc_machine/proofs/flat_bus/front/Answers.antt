@@ -1,4 +1,4 @@
-use Rattle.std.proofs.Common.{List, ℕ, ◌≤◌, ◌-◌, take, drop, length, ap, ◌∙◌, arith}
+use Rattle.std.proofs.Common.{List, ℕ, take, ap, ◌∙◌, arith}
 use Rattle.std.proofs.lemmas.List.{length-drop}
 use Rattle.ebc_machine.proofs.FlatLemmas.{whole_front}
 use Rattle.ebc_machine.proofs.flat_bus.front.Goals as goal

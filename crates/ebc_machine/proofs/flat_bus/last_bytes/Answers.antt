@@ -1,5 +1,4 @@
-use Rattle.std.proofs.Common.{◌-◌, length, ap, ◌∙◌, arith}
-use Rattle.std.proofs.lemmas.List.{length-drop}
+use Rattle.std.proofs.Common.{arith}
 use Rattle.ebc_machine.proofs.FlatLemmas.{last_front}
 use Rattle.ebc_machine.proofs.flat_bus.last_bytes.Goals as goal
 

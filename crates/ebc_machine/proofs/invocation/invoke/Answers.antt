@@ -1,13 +1,10 @@
-use Rattle.std.proofs.Common.{◌≡◌, ◌⊎◌, inr, Some, None, ℕ, suc, ◌-◌, ◌<◌, sym, ap, ◌∙◌, subst, arith}
-use Rattle.mm_base.specs.Bus.{Answers, IsOutOfMemory}
-use Rattle.mm_base.specs.declared.bus.Served.{Served}
+use Rattle.std.proofs.Common.{◌≡◌, inr, Some, None, ℕ, suc, ◌-◌, ◌<◌, sym, ap, ◌∙◌, subst, arith}
+use Rattle.mm_base.specs.Bus.{Answers}
 use Rattle.mm_base.specs.declared.bus.Served.TheVariants.{Status, Stop}
 use Rattle.ebc_machine.specs.declared.regs.Regs.{Regs}
 use Rattle.ebc_machine.specs.declared.turn.Progress.{Progress}
-use Rattle.ebc_machine.specs.declared.turn.Progress.TheVariants as progress
 use Rattle.ebc_machine.specs.Operands.{at_address}
-use Rattle.ebc_machine.specs.Stepping.{stepped}
-use Rattle.ebc_machine.specs.Told.{Tells, IsNumbered}
+use Rattle.ebc_machine.specs.Told.{IsNumbered}
 use Rattle.ebc_machine.specs.Invocation.{Call, turns, invoked}
 use Rattle.ebc_machine.proofs.InvokeLemmas.{begun, not_begun, out_of_fuel, next_turn, call_turn, return_turn, denied_turn, fault_turn, was_answered, status_turn, stop_turn}
 use Rattle.ebc_machine.proofs.invocation.invoke.Goals as goal
