@@ -11,8 +11,6 @@ mod drivers;
 #[cfg(test)]
 mod expression_words;
 #[cfg(test)]
-mod file_words;
-#[cfg(test)]
 mod handler_runs;
 #[cfg(test)]
 mod image_words;
@@ -28,3 +26,5 @@ mod volume_runs;
 mod volumes;
 #[cfg(test)]
 mod whole_runs;
+#[cfg(test)]
+mod words_of_files;
