@@ -19,4 +19,8 @@ mod moves;
 #[cfg(test)]
 mod order;
 #[cfg(test)]
+mod programs;
+#[cfg(test)]
+mod services;
+#[cfg(test)]
 mod stack_words;
