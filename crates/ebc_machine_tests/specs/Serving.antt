@@ -1,6 +1,6 @@
 -- A bus of the tests: memory as of a flat bus, and two services. One answers with the address of its arguments as its status, and the
 -- other one is denied a port.
-use Rattle.std.specs.Prelude.{ℕ, if◌then◌else◌}
+use Rattle.std.specs.Prelude.{ℕ, ◌==◌, if◌then◌else◌}
 use Rattle.mm_base.specs.Bus.{Meaning}
 use Rattle.mm_base.specs.declared.access.Denial.{Denial}
 use Rattle.mm_base.specs.declared.access.Kind.TheVariants as kinds
