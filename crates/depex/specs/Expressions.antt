@@ -1,10 +1,11 @@
 -- Bytes as dependency expressions, and the first fault of those that are none.
 use Rattle.std.specs.Prelude.{◌≡◌, ◌≢◌, ◌<◌, ◌≤◌, ◌⊎◌, ℕ, ◌+◌, List, [], ◌∷◌, ◌++◌, length, slice_index}
+use Rattle.mm_base.specs.Guid.{IsGuid}
 use Rattle.mm_base.specs.declared.guid.Guid.{Guid}
 use Rattle.mm_base.specs.declared.expression.DepexFault.{DepexFault}
 use Rattle.mm_base.specs.declared.expression.DepexFault.TheVariants.{Empty, NoEnd, Unknown, Underflow, Leftover, BeforeNotFirst, TooDeep}
 use Rattle.depex.specs.declared.item.Item.{Item}
-use Rattle.depex.specs.Trees.{Tree, postfix, need, opcode_of, before_opcode, after_opcode, end_opcode, taken_by, bytes_of, IsGuid, HasGuids}
+use Rattle.depex.specs.Trees.{Tree, postfix, need, opcode_of, before_opcode, after_opcode, end_opcode, taken_by, bytes_of, HasGuids}
 
 -- an expression: a condition, or BEFORE or AFTER with the name of another driver
 pub data Expression : Type 0 where

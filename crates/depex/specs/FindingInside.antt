@@ -6,7 +6,8 @@ use Rattle.depex.specs.declared.item.Item.{Item}
 use Rattle.depex.specs.declared.item.Item.TheVariants as items
 use Rattle.depex.specs.declared.found.Found.{Found}
 use Rattle.depex.specs.declared.found.Found.TheVariants.{End, Next, Refused}
-use Rattle.depex.specs.Trees.{Tree, postfix, after_opcode, end_opcode, taken_by, item_bytes, IsGuid}
+use Rattle.mm_base.specs.Guid.{IsGuid}
+use Rattle.depex.specs.Trees.{Tree, postfix, after_opcode, end_opcode, taken_by, item_bytes}
 use Rattle.depex.specs.declared.expression.Kept.{Kept}
 use Rattle.depex.specs.Expressions.{Expression, Condition, IsExpression, StopsAt}
 use Rattle.depex.specs.Keeping.{kept_of}

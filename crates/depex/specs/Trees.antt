@@ -1,6 +1,7 @@
 -- Dependency expressions as trees, and how trees are spelled: PI 1.8, volume 2, the dependency expression instruction set.
-use Rattle.std.specs.Prelude.{◌≡◌, ℕ, ◌+◌, max, Bool, true, false, ◌&&◌, ◌||◌, not, List, [], ◌∷◌, ◌++◌, length}
+use Rattle.std.specs.Prelude.{ℕ, ◌+◌, max, Bool, true, false, ◌&&◌, ◌||◌, not, List, [], ◌∷◌, ◌++◌}
 use Rattle.std.specs.List.{flat_map}
+use Rattle.mm_base.specs.Guid.{IsGuid}
 use Rattle.mm_base.specs.declared.guid.Guid.{Guid}
 use Rattle.depex.specs.declared.item.Item.{Item}
 use Rattle.depex.specs.declared.item.Item.TheVariants as items
@@ -83,11 +84,7 @@ item_bytes item = opcode_of item ∷ guid_of item
 abbrev pub bytes_of : List Item → List ℕ
 bytes_of all = flat_map item_bytes all
 
--- A GUID has 16 bytes.
-abbrev pub IsGuid : Guid → Type 0
-IsGuid guid = length guid.0 ≡ 16
-
--- Each GUID of a tree does.
+-- Each GUID of a tree has its 16 bytes.
 abbrev pub HasGuids : Tree → Type 0
 HasGuids True = Unit {0}
 HasGuids False = Unit {0}

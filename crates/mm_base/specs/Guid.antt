@@ -1,5 +1,5 @@
 -- GUIDs and their text.
-use Rattle.std.specs.Prelude.{ℕ, List, Option, option_map, Bool}
+use Rattle.std.specs.Prelude.{◌≡◌, ℕ, List, Option, option_map, Bool, length}
 use Rattle.std.specs.Str.{bytes_eq}
 use Rattle.uuid.specs.Text.{parsed, hyphenated_text, lower}
 use Rattle.uuid.specs.Parts.{swap_fields}
@@ -13,6 +13,10 @@ guid_from_text text = option_map (λ bytes. record { 0 = swap_fields bytes }) (p
 -- the text of a GUID: 36 bytes, lower case, with hyphens
 abbrev pub guid_text : Guid → List ℕ
 guid_text guid = hyphenated_text lower (swap_fields guid.0)
+
+-- It has the 16 bytes that each GUID has.
+abbrev pub IsGuid : Guid → Type 0
+IsGuid guid = length guid.0 ≡ 16
 
 -- whether two GUIDs have the same bytes
 abbrev pub same_guid : Guid → Guid → Bool

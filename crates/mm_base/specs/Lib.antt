@@ -7,10 +7,12 @@ pub mod Entry
 pub mod Frames
 pub mod Guid
 pub mod GuidLaws
+pub mod Kinds
 pub mod Machine
 pub mod NumberLaws
 pub mod Numbers
 pub mod Platform
+pub mod Policies
 pub mod Prepared
 pub mod Range
 pub mod Receipt

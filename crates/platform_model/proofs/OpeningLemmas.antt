@@ -11,11 +11,12 @@ use Rattle.std.proofs.lemmas.List.{reverse-append, length-replicate}
 use Rattle.std.proofs.lemmas.List.Elements.{All-head, All-tail, All-push, All-same}
 use Rattle.mm_base.specs.Cells.{IsOpeningCell, may_hold, is_msr}
 use Rattle.mm_base.specs.Frames.{zeros}
+use Rattle.mm_base.specs.Kinds.{same_kind}
 use Rattle.mm_base.specs.declared.access.Kind.{Kind}
 use Rattle.mm_base.specs.declared.access.Kind.TheVariants.{Memory, Io, Msr, Saved}
 use Rattle.mm_base.specs.declared.cells.CellWrite.{CellWrite}
 use Rattle.platform_model.specs.Cells.{PlatformState, IsPlatform}
-use Rattle.platform_model.specs.Opening.{same_kind, is_for, opening_value, opening_values, opening_state}
+use Rattle.platform_model.specs.Opening.{is_for, opening_value, opening_values, opening_state}
 use Rattle.platform_model.specs.OpeningInside.{blank_state, with_value, with_cell}
 use Rattle.platform_model.proofs.RegisterLemmas.{low_index, high_index, upper_from, upper_place}
 

@@ -1,17 +1,11 @@
 -- What the cells hold at the start.
-use Rattle.std.specs.Prelude.{ℕ, zero, suc, Bool, true, false, ◌==◌, ◌&&◌, List, [], ◌∷◌, find, reverse}
+use Rattle.std.specs.Prelude.{ℕ, zero, suc, Bool, ◌==◌, ◌&&◌, List, [], ◌∷◌, find, reverse}
 use Rattle.std.specs.Option.{option_map_or}
+use Rattle.mm_base.specs.Kinds.{same_kind}
 use Rattle.mm_base.specs.declared.access.Kind.{Kind}
-use Rattle.mm_base.specs.declared.access.Kind.TheVariants.{Memory, Io, Msr, Saved}
+use Rattle.mm_base.specs.declared.access.Kind.TheVariants.{Memory, Io, Msr}
 use Rattle.mm_base.specs.declared.cells.CellWrite.{CellWrite}
 use Rattle.platform_model.specs.Cells.{PlatformState}
-
-abbrev pub same_kind : Kind → Kind → Bool
-same_kind Memory Memory = true
-same_kind Io Io = true
-same_kind Msr Msr = true
-same_kind Saved Saved = true
-same_kind a b = false
 
 -- whether a line is for this cell
 abbrev pub is_for : Kind → ℕ → CellWrite → Bool

@@ -4,6 +4,7 @@ use Rattle.std.proofs.Common.{zero-add, arith}
 use Rattle.std.specs.Prelude.{if◌then◌else◌}
 use Rattle.std.specs.List.{All}
 use Rattle.std.proofs.lemmas.List.Elements.{All-head, All-tail}
+use Rattle.mm_base.specs.Kinds.{same_kind}
 use Rattle.mm_base.specs.Range.{encloses, share_a_unit}
 use Rattle.mm_base.specs.declared.access.Kind.{Kind}
 use Rattle.mm_base.specs.declared.access.Kind.TheVariants.{Memory, Io, Msr, Saved}
@@ -19,7 +20,7 @@ use Rattle.mm_base.specs.declared.range.Range.{Range}
 use Rattle.secure_policy.specs.declared.place.Place.{Place}
 use Rattle.secure_policy.specs.declared.place.Place.TheVariants.{Nowhere, Mmram, LaneWindow, Cells}
 use Rattle.secure_policy.specs.Places.{place_of}
-use Rattle.secure_policy.specs.Verdicts.{Basis, verdict_on, verdict_at, verdict_by_rules, units_from, with_rules, same_kind}
+use Rattle.secure_policy.specs.Verdicts.{Basis, verdict_on, verdict_at, verdict_by_rules, units_from, with_rules}
 use Rattle.secure_policy.specs.Verdicts.{is_for, is_about}
 use Rattle.secure_policy.specs.Verdicts.{is_allowed_by}
 use Rattle.secure_policy.specs.Laws.{IsBeside}

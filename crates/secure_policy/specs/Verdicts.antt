@@ -2,10 +2,10 @@
 -- this project's own.
 use Rattle.std.specs.Prelude.{ℕ, suc, Bool, true, false, ◌&&◌, ◌||◌, if◌then◌else◌, List, [], ◌∷◌, replicate}
 use Rattle.mm_base.specs.Guid.{same_guid}
+use Rattle.mm_base.specs.Kinds.{same_kind}
 use Rattle.mm_base.specs.Range.{share_a_unit, encloses}
 use Rattle.mm_base.specs.Rights.{have_right}
 use Rattle.mm_base.specs.declared.access.Kind.{Kind}
-use Rattle.mm_base.specs.declared.access.Kind.TheVariants.{Memory, Io, Msr, Saved}
 use Rattle.mm_base.specs.declared.access.Right.{Right}
 use Rattle.mm_base.specs.declared.access.Right.TheVariants.{Read, Write, Execute}
 use Rattle.mm_base.specs.declared.access.Verdict.{Verdict}
@@ -27,14 +27,6 @@ pub record Basis : Type 0 where
 -- the same homes and names with other rules
 abbrev pub with_rules : List Rule → Basis → Basis
 with_rules rules basis = record { is_home = basis.is_home; name_of = basis.name_of; rules = rules }
-
--- whether two kinds are the same
-abbrev pub same_kind : Kind → Kind → Bool
-same_kind Memory Memory = true
-same_kind Io Io = true
-same_kind Msr Msr = true
-same_kind Saved Saved = true
-same_kind a b = false
 
 -- the owner of the rules that are for all images: the GUID of zeros
 abbrev pub every_image : Guid

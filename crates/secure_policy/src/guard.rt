@@ -1,6 +1,6 @@
 //! The guard: it keeps the policy, and decides each access of an image.
 ghost use Rattle.std.specs.Prelude.{◌≡◌, IfOk};
-ghost use Rattle.secure_policy.specs.Lawful.{IsLawfulPolicy};
+ghost use Rattle.mm_base.specs.Policies.{IsLawfulPolicy};
 ghost use Rattle.secure_policy.specs.Verdicts.{Basis, verdict_on};
 
 use crate::place::{Place, locate};
@@ -17,7 +17,7 @@ pub struct Guard {
 
 impl Model for Guard {
     ghost use Rattle.mm_base.specs.declared.policy.Policy.{Policy as PolicyValue};
-    ghost use Rattle.secure_policy.specs.Lawful.{IsLawfulPolicy};
+    ghost use Rattle.mm_base.specs.Policies.{IsLawfulPolicy};
 
     ghost Value = { PolicyValue };
 

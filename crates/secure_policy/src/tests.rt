@@ -1,6 +1,6 @@
 //! Verdicts on two images. What is expected was worked out by hand from the rules; numbers of places are hexadecimal.
 ghost use Rattle.std.specs.Prelude.{IsTrue, All};
-ghost use Rattle.secure_policy.specs.Lawful.{IsRule};
+ghost use Rattle.mm_base.specs.Policies.{IsRule};
 ghost use Rattle.std.specs.Prelude.{◌≡◌};
 ghost use Rattle.secure_policy.specs.TestHomes.{is_data_of_test};
 
