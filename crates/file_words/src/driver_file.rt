@@ -14,7 +14,7 @@ use pe_loader::inspect;
 use volume_reader::{Contents, contents};
 
 /// The data of a section, which follows its header.
-fn data<'a>(bytes: &'a [u8], section: &Section) -> &'a [u8]
+pub fn data<'a>(bytes: &'a [u8], section: &Section) -> &'a [u8]
     requires { section.now.at + section.now.length ≤ length bytes.now }
     ensures { result.now ≡ data_of bytes.now section.now }
 {

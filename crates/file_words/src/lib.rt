@@ -12,7 +12,8 @@ pub mod laws;
 mod policy_file;
 mod volume_catalog;
 
-pub use driver_file::parts_of;
+pub use driver_file::{data, parts_of};
 pub use driver_parts::DriverParts;
 pub use file_word::{Cause, FileWord};
+pub use policy_file::is_policy;
 pub use volume_catalog::catalog;

@@ -12,8 +12,8 @@ const POLICY_NAME: Guid = Guid([
     0x50, 0x53, 0x4d, 0x4d, 0x02, 0x00, 0x00, 0x40, 0x80, 0x00, 0x00, 0x00, 0x00, 0x00, 0x00, 0x02,
 ]);
 
-/// Whether a file is a freeform file by the policy's name.
-pub(crate) fn is_policy(file: &File) -> bool
+/// Whether a file is a freeform file by the policy's name; the first of them is the policy file.
+pub fn is_policy(file: &File) -> bool
     ensures { result ≡ is_policy_file file.now }
 {
     file.kind == FREEFORM && file.name == POLICY_NAME

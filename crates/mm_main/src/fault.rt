@@ -1,5 +1,5 @@
 //! What the program says on standard error where a run did not end well.
-use mm_base::{TextKind, VolumeKind};
+use mm_base::{PolicyKind, TextKind, VolumeKind};
 use mm_run::{BadKind, Command, Status, Which};
 use thiserror::Error;
 
@@ -10,6 +10,12 @@ pub enum Fault<'a> {
     Usage,
     #[error("{name:?}, byte {at:#x}: {why}")]
     BadVolume {
+        name: &'a str,
+        at: u32,
+        why: &'static str,
+    },
+    #[error("{name:?}, byte {at:#x} of the policy in its policy file: {why}")]
+    BadPolicy {
         name: &'a str,
         at: u32,
         why: &'static str,
@@ -55,6 +61,14 @@ impl<'a> Fault<'a> {
                 at,
                 why: why_no_volume(kind),
             }),
+            Status::BadVolume {
+                at,
+                kind: BadKind::Policy(kind),
+            } => Some(Fault::BadPolicy {
+                name: first,
+                at,
+                why: why_no_policy(kind),
+            }),
             Status::BadText { line, kind } => Some(Fault::BadText {
                 name: first,
                 line,
@@ -94,6 +108,32 @@ fn why_no_volume(kind: VolumeKind) -> &'static str {
         VolumeKind::FileSize => {
             "the size of the file that stands here is below its header's or leads past the volume's end, or it is a large file where none may be"
         }
+    }
+}
+
+/// Why a policy is refused at a place.
+fn why_no_policy(kind: PolicyKind) -> &'static str {
+    match kind {
+        PolicyKind::File => {
+            "the policy file's body isn't sound, one of its sections is refused, or it has no raw section"
+        }
+        PolicyKind::Short => {
+            "the policy ends here, and its header has 16 bytes and each of its rules 40"
+        }
+        PolicyKind::Magic => "a policy has its signature here, MMSP, and this isn't it",
+        PolicyKind::Version => "the policy's version isn't 1",
+        PolicyKind::Reserved => "the reserved field isn't 0",
+        PolicyKind::Count => "the policy has more than 1024 rules",
+        PolicyKind::Fuel => "the fuel is 0, or over 1000000",
+        PolicyKind::Kind => {
+            "the rule's kind is none of 1 memory, 2 I/O, 3 MSR and 4 save state"
+        }
+        PolicyKind::Action => "the rule's action is neither 0 deny nor 1 allow",
+        PolicyKind::Rights => {
+            "the rule's rights are not those of its action: from 1 to 3 to allow, 0 to deny"
+        }
+        PolicyKind::Length => "the rule's range is empty, or ends past 2^64",
+        PolicyKind::Trailing => "bytes stand here after the last rule",
     }
 }
 

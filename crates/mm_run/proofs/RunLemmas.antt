@@ -17,14 +17,18 @@ use Rattle.mm_core.specs.MachineLemmas.{core_step-within}
 use Rattle.mm_text.specs.declared.text_end.TextFault.{TextFault}
 use Rattle.mm_text.proofs.TextLemmas.{never-both, fault-unique}
 use Rattle.volume_reader.specs.declared.volume_fault.VolumeFault.{VolumeFault}
-use Rattle.volume_reader.proofs.Offered.{never_volume_and_fault, one_volume_fault}
+use Rattle.mm_base.specs.declared.policy.PolicyFault.{PolicyFault}
+use Rattle.mm_base.specs.declared.volume.Volume.{Volume}
+use Rattle.volume_policy.specs.PolicyFiles.{HasVolumePolicyFault}
+use Rattle.volume_policy.proofs.Offered.{never_policy_and_fault, one_policy_fault}
+use Rattle.volume_reader.proofs.Offered.{never_volume_and_fault, one_volume, one_volume_fault}
 use Rattle.mm_run.specs.Command.{command_of, most_bytes}
 use Rattle.mm_run.specs.ScriptRun.{WasDriven, Shows, Whole, Front, RunHeadline, HasHeadline, core_of, past_of, lanes_of, lane_words, run_report, report_for}
 use Rattle.mm_run.specs.Run.{IsGood, IsFaulty, IsReport, Refusal, Faulty, Unreadable, Long, Wanting, Reports, Holds, HoldsFault, IsMadeOfScript, IsMadeOf, IsMade, RefusesBytes}
 use Rattle.mm_run.specs.Status.{writes}
 use Rattle.mm_run.specs.declared.command.Command.{Command}
 use Rattle.mm_run.specs.declared.command.Command.TheVariants.{Script as ScriptCommand, Check}
-use Rattle.mm_run.specs.declared.status.BadKind.TheVariants.{Volume as VolumeIsBad}
+use Rattle.mm_run.specs.declared.status.BadKind.TheVariants.{Volume as VolumeIsBad, Policy as PolicyIsBad}
 use Rattle.mm_run.specs.declared.status.Status.{Status}
 use Rattle.mm_run.specs.declared.status.Status.TheVariants.{Done, Usage, BadVolume, BadText, ReadFault, WriteFault, TooLong, NoMemory}
 use Rattle.mm_run.specs.declared.status.Which.TheVariants.{First}
@@ -35,28 +39,42 @@ use Rattle.mm_run.specs.declared.made.Made.{Made}
 -- good bytes have no fault
 never_faulty : (command : Command) (bytes : List ℕ) (status : Status) → IsGood command bytes → IsFaulty command bytes status → ⊥
 never_faulty ScriptCommand bytes status good (fault, (first, is)) = never-both true bytes good.0 fault good.1 first
-never_faulty Check bytes status good (fault, (has, is)) = never_volume_and_fault bytes good.0 fault good.1 has
+never_faulty Check bytes status good (inl bad) = never_volume_and_fault bytes good.volume bad.fault good.is bad.has
+never_faulty Check bytes status good (inr bad) =
+    let P : Volume → Type 0 = λ volume. HasVolumePolicyFault bytes volume.files bad.fault in
+    never_policy_and_fault bytes good.volume.files good.policy bad.fault good.policy_is
+    (subst P (one_volume bytes bad.volume good.volume bad.is good.is) bad.has)
 
 -- and bytes have one first fault
 one_fault : (command : Command) (bytes : List ℕ) (one other : Status) → IsFaulty command bytes one → IsFaulty command bytes other → one ≡ other
 one_fault ScriptCommand bytes one other (f, (a, is)) (g, (b, also)) =
     is ∙ ap (λ (fault : TextFault). BadText fault.line fault.kind) (fault-unique true bytes f g a b) ∙ sym also
-one_fault Check bytes one other (f, (a, is)) (g, (b, also)) =
-    is ∙ ap (λ (fault : VolumeFault). BadVolume fault.at (VolumeIsBad fault.kind)) (one_volume_fault bytes f g a b) ∙ sym also
+one_fault Check bytes one other (inl a) (inl b) =
+    a.status_is ∙ ap (λ (fault : VolumeFault). BadVolume fault.at (VolumeIsBad fault.kind)) (one_volume_fault bytes a.fault b.fault a.has b.has) ∙ sym b.status_is
+one_fault Check bytes one other (inl a) (inr b) = absurd (never_volume_and_fault bytes b.volume a.fault b.is a.has)
+one_fault Check bytes one other (inr a) (inl b) = absurd (never_volume_and_fault bytes a.volume b.fault a.is b.has)
+one_fault Check bytes one other (inr a) (inr b) =
+    let P : Volume → Type 0 = λ volume. HasVolumePolicyFault bytes volume.files b.fault in
+    let same : a.fault ≡ b.fault =
+    one_policy_fault bytes a.volume.files a.fault b.fault a.has (subst P (one_volume bytes b.volume a.volume b.is a.is) b.has) in
+    a.status_is ∙ ap (λ (fault : PolicyFault). BadVolume fault.at (PolicyIsBad fault.kind)) same ∙ sym b.status_is
 
 -- a fault is no status that writes, and not that of faulty words
 fault_writes_nothing : (command : Command) (bytes : List ℕ) (status : Status) → IsFaulty command bytes status → writes status ≡ false
 fault_writes_nothing ScriptCommand bytes status (fault, (first, is)) = ap writes is
-fault_writes_nothing Check bytes status (fault, (first, is)) = ap writes is
+fault_writes_nothing Check bytes status (inl bad) = ap writes bad.status_is
+fault_writes_nothing Check bytes status (inr bad) = ap writes bad.status_is
 
 fault_not_usage : (command : Command) (bytes : List ℕ) (status : Status) → IsFaulty command bytes status → status ≡ Usage → ⊥
 fault_not_usage ScriptCommand bytes status (fault, (first, is)) e = let u : BadText fault.line fault.kind ≡ Usage = sym is ∙ e in cc
-fault_not_usage Check bytes status (fault, (first, is)) e = let u : BadVolume fault.at (VolumeIsBad fault.kind) ≡ Usage = sym is ∙ e in cc
+fault_not_usage Check bytes status (inl bad) e = let u : BadVolume bad.fault.at (VolumeIsBad bad.fault.kind) ≡ Usage = sym bad.status_is ∙ e in cc
+fault_not_usage Check bytes status (inr bad) e = let u : BadVolume bad.fault.at (PolicyIsBad bad.fault.kind) ≡ Usage = sym bad.status_is ∙ e in cc
 
 -- what was made of bytes was made of good ones, and its text is their report
 made_good : (command : Command) (bytes : List ℕ) (made : Made) → IsMadeOf command bytes made → IsGood command bytes
 made_good ScriptCommand bytes made of = (of.script, of.says)
-made_good Check bytes made of = (of.report.volume, of.report.is)
+made_good Check bytes made of =
+    record { volume = of.report.volume; is = of.report.is; policy = of.report.policy; policy_is = of.report.policy_is }
 
 made_report : (command : Command) (bytes : List ℕ) (made : Made) → IsMadeOf command bytes made → IsReport command bytes made.text
 made_report ScriptCommand bytes made of = (of.script, (of.says, of.by_script.driven.reported))

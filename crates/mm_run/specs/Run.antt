@@ -2,6 +2,8 @@
 use Rattle.std.specs.Prelude.{◌≡◌, ◌≤◌, ◌⊎◌, ℕ, true, List, length, Some, None}
 use Rattle.std.specs.declared.option.Option.{Option}
 use Rattle.mm_base.specs.End.{out_of_memory}
+use Rattle.mm_base.specs.declared.policy.Policy.{Policy}
+use Rattle.mm_base.specs.declared.policy.PolicyFault.{PolicyFault}
 use Rattle.mm_base.specs.declared.volume.Volume.{Volume}
 use Rattle.mm_io.specs.Streams.{GivesAll, GivesAtMost, GivesMoreThan}
 use Rattle.comm_core.specs.World.{WorldState}
@@ -12,26 +14,49 @@ use Rattle.mm_text.specs.ScriptText.{IsScript}
 use Rattle.mm_text.specs.declared.text_end.TextFault.{TextFault}
 use Rattle.volume_reader.specs.VolumeGrammar.{IsVolume, HasFault}
 use Rattle.volume_reader.specs.declared.volume_fault.VolumeFault.{VolumeFault}
+use Rattle.volume_policy.specs.PolicyFiles.{IsVolumePolicy, HasVolumePolicyFault}
 use Rattle.mm_run.specs.Command.{most_bytes}
 use Rattle.mm_run.specs.ScriptRun.{report_for, IsDriven}
 use Rattle.mm_run.specs.CheckRun.{IsVolumeReport}
 use Rattle.mm_run.specs.declared.command.Command.{Command}
 use Rattle.mm_run.specs.declared.command.Command.TheVariants.{Script as ScriptCommand, Check}
-use Rattle.mm_run.specs.declared.status.BadKind.TheVariants.{Volume as VolumeIsBad}
+use Rattle.mm_run.specs.declared.status.BadKind.TheVariants.{Volume as VolumeIsBad, Policy as PolicyIsBad}
 use Rattle.mm_run.specs.declared.status.Status.{Status}
 use Rattle.mm_run.specs.declared.status.Status.TheVariants.{BadVolume, BadText, ReadFault, TooLong, NoMemory}
 use Rattle.mm_run.specs.declared.status.Which.TheVariants.{First}
 use Rattle.mm_run.specs.declared.made.Made.{Made}
 
--- The bytes of a command's source are as it wants them: they spell a script, or are a volume.
+-- Bytes are a volume, and its policy, where it has one, is lawful.
+pub record IsGoodVolume (bytes : List ℕ) : Type 0 where
+  pub volume : Volume
+  pub is : IsVolume bytes volume
+  pub policy : Option Policy
+  pub policy_is : IsVolumePolicy bytes volume.files policy
+
+-- They are a volume whose policy has a fault, and this is its status.
+pub record HasBadPolicy (bytes : List ℕ) (status : Status) : Type 0 where
+  pub volume : Volume
+  pub is : IsVolume bytes volume
+  pub fault : PolicyFault
+  pub has : HasVolumePolicyFault bytes volume.files fault
+  pub status_is : status ≡ BadVolume fault.at (PolicyIsBad fault.kind)
+
+-- They are no volume, and this is the status of their first fault.
+pub record IsNoVolume (bytes : List ℕ) (status : Status) : Type 0 where
+  pub fault : VolumeFault
+  pub has : HasFault bytes fault
+  pub status_is : status ≡ BadVolume fault.at (VolumeIsBad fault.kind)
+
+-- The bytes of a command's source are as it wants them: they spell a script, or are a volume with a lawful policy or none.
 abbrev pub IsGood : Command → List ℕ → Type 0
 IsGood ScriptCommand bytes = (script : Script) × IsScript true bytes script
-IsGood Check bytes = (volume : Volume) × IsVolume bytes volume
+IsGood Check bytes = IsGoodVolume bytes
 
--- They have a first fault, and this is its status: the first refused line of a text, or the first failing check of a volume.
+-- They have a first fault, and this is its status: the first refused line of a text; or the first failing check of a volume, or, where the
+-- volume has none, of its policy.
 abbrev pub IsFaulty : Command → List ℕ → Status → Type 0
 IsFaulty ScriptCommand bytes status = (fault : TextFault) × (IsFault true bytes fault × (status ≡ BadText fault.line fault.kind))
-IsFaulty Check bytes status = (fault : VolumeFault) × (HasFault bytes fault × (status ≡ BadVolume fault.at (VolumeIsBad fault.kind)))
+IsFaulty Check bytes status = IsNoVolume bytes status ⊎ HasBadPolicy bytes status
 
 -- This is the report of a command for these bytes.
 abbrev pub IsReport : Command → List ℕ → List ℕ → Type 0

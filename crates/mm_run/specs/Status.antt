@@ -6,7 +6,8 @@ use Rattle.mm_io.specs.declared.reading.ReadEnd.{ReadEnd}
 use Rattle.mm_io.specs.declared.reading.ReadEnd.TheVariants as read_end
 use Rattle.mm_text.specs.declared.text_end.TextFault.{TextFault}
 use Rattle.volume_reader.specs.declared.volume_fault.VolumeFault.{VolumeFault}
-use Rattle.mm_run.specs.declared.status.BadKind.TheVariants.{Volume}
+use Rattle.mm_base.specs.declared.policy.PolicyFault.{PolicyFault}
+use Rattle.mm_run.specs.declared.status.BadKind.TheVariants.{Volume, Policy}
 use Rattle.mm_run.specs.declared.status.Status.{Status}
 use Rattle.mm_run.specs.declared.status.Status.TheVariants.{Done, Usage, BadVolume, BadText, ReadFault, WriteFault, TooLong, NoMemory}
 use Rattle.mm_run.specs.declared.status.Which.{Which}
@@ -37,6 +38,11 @@ status_of_text (end.NoMemory refused) = NoMemory refused
 abbrev pub status_of_volume : End VolumeFault → Status
 status_of_volume (end.Fault fault) = BadVolume fault.at (Volume fault.kind)
 status_of_volume (end.NoMemory refused) = NoMemory refused
+
+-- the status of a policy that was not read
+abbrev pub status_of_policy : End PolicyFault → Status
+status_of_policy (end.Fault fault) = BadVolume fault.at (Policy fault.kind)
+status_of_policy (end.NoMemory refused) = NoMemory refused
 
 -- whether the report was written, or a front of it
 abbrev pub writes : Status → Bool

@@ -7,12 +7,12 @@ ghost use Rattle.mm_run.specs.declared.command.Command.TheVariants.{Check};
 use crate::made::Made;
 use crate::status::Status;
 use mm_base::{Bytes, List, NoMemory, Volume};
-use mm_core::{FileWord, catalog};
+use mm_core::{FileWord, catalog, policy_of};
 use mm_text::{Parts, report};
 use std::alloc::Global;
 use volume_reader::read_volume;
 
-/// The report of the volume that these bytes are. Each byte is read a bounded number of times, but for the entries of the section
+/// The report of the volume that these bytes are. The volume's fault comes before that of its policy. Each byte is read a bounded number of times, but for the entries of the section
 /// table of an image that isn't in the order of their places: those at most as often as there are sections.
 pub(crate) fn check_volume(alloc: Global, bytes: &[u8]) -> Result<Made, Status>
     requires { length bytes.now ≤ 16777216 }
@@ -20,6 +20,7 @@ pub(crate) fn check_volume(alloc: Global, bytes: &[u8]) -> Result<Made, Status>
     ensures err { IfErr result (RefusesBytes Check bytes.now) }
 {
     let volume = read_volume(alloc, bytes)?;
+    policy_of(alloc, bytes, &volume)?;
     let words = catalog(alloc, bytes, &volume)?;
     let text = listed(alloc, &volume, &words)?;
     Ok(Made { world: None, text })

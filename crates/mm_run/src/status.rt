@@ -2,7 +2,8 @@
 ghost use Rattle.std.specs.Prelude.{◌≡◌};
 ghost use Rattle.mm_run.specs.Status.{number_of_status, status_of_read};
 
-use mm_base::{End, NoMemory, TextKind, VolumeKind};
+use mm_base::{End, NoMemory, PolicyKind, TextKind, VolumeKind};
+use mm_core::BootEnd;
 use mm_io::ReadEnd;
 use mm_text::TextEnd;
 use volume_reader::VolumeEnd;
@@ -19,8 +20,10 @@ pub enum Which {
 /// What of a volume is refused.
 #[derive(Clone, Copy, Debug, PartialEq, Eq)]
 pub enum BadKind {
-    /// The volume itself, for this.
+    /// The volume itself, for this. The place counts in the volume.
     Volume(VolumeKind),
+    /// The policy in its policy file, for this. The place counts in the policy.
+    Policy(PolicyKind),
 }
 
 /// How a run ended. Its number is the program's exit status.
@@ -30,7 +33,7 @@ pub enum Status {
     Done,
     /// The words are no form that the program serves.
     Usage,
-    /// The volume is refused at this place, counted in bytes from 0.
+    /// The volume is refused, or its policy, at this place, counted in bytes from 0.
     BadVolume { at: u32, kind: BadKind },
     /// The text of a source is refused at this line, counted from 1.
     BadText { line: u32, kind: TextKind },
@@ -109,6 +112,22 @@ impl From<VolumeEnd> for Status {
             End::Fault(fault) => Status::BadVolume {
                 at: fault.at,
                 kind: BadKind::Volume(fault.kind),
+            },
+            End::NoMemory(refused) => Status::NoMemory(refused),
+        }
+    }
+}
+
+impl From<BootEnd> for Status {
+    ghost use Rattle.mm_run.specs.Status.{status_of_policy};
+
+    ghost from_gives = { λ end status. status ≡ status_of_policy end };
+
+    fn from(end: BootEnd) -> Self {
+        match end {
+            End::Fault(fault) => Status::BadVolume {
+                at: fault.at,
+                kind: BadKind::Policy(fault.kind),
             },
             End::NoMemory(refused) => Status::NoMemory(refused),
         }

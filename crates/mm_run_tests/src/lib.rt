@@ -15,6 +15,8 @@ mod handler_runs;
 #[cfg(test)]
 mod image_words;
 #[cfg(test)]
+mod policy_runs;
+#[cfg(test)]
 mod report_texts;
 #[cfg(test)]
 mod running;

@@ -174,6 +174,23 @@ pub const COMPRESSED_BEHIND: &[Layout] = &[GUID_DEFINED_SECTION, COMPRESSED_SECT
 /// A driver's body behind a GUID-defined section.
 pub const GUID_DEFINED: &[Layout] = &[GUID_DEFINED_SECTION, EXPRESSION, IMAGE_HEADER, IMAGE];
 
+/// The name of the policy file, as it is stored.
+pub const POLICY_NAME: &[u8] = b"PSMM\x02\0\0\x40\x80\0\0\0\0\0\0\x02";
+
+/// A raw section with a policy of no rules, which gives 65,536 of fuel.
+pub const NO_RULES: &[Layout] = &[Layout {
+    length: 20,
+    pieces: &[(0, b"\x14\0\0\x19MMSP\x01"), (18, b"\x01")],
+}];
+
+/// A policy of one rule, of 56 bytes: the image aaaaaaaa-0000-0000-0000-000000000001 may read port 70.
+pub const ONE_RULE: &[Piece] = &[
+    (0, b"MMSP\x01\0\0\0\x01\0\0\0\0\0\x01\0"),
+    (16, b"\x02\0\x01\0\x01\0\0\0\xaa\xaa\xaa\xaa"),
+    (39, b"\x01\x70"),
+    (48, b"\x01"),
+];
+
 /// A file that goes into a volume. `off` is added to the right file checksum: 0 leaves the body sound.
 #[derive(Drop)]
 pub struct Part {

@@ -3,14 +3,11 @@
 use crate::checks::is_listed;
 use crate::volumes::{
     COMPRESSED, COMPRESSED_BEHIND, DRIVER, DRIVER_AND_REST, GUID_DEFINED, LONG_SECTION, NO_IMAGE,
-    Part, SHORT_BEHIND, SHORT_SECTION, TEXT, volume_of,
+    NO_RULES, POLICY_NAME, Part, SHORT_BEHIND, SHORT_SECTION, TEXT, volume_of,
 };
 use mm_base::NoMemory;
 use std::alloc::Global;
 use std::test::Fail;
-
-/// The policy's name, as it is stored.
-const POLICY: &[u8] = b"PSMM\x02\0\0\x40\x80\0\0\0\0\0\0\x02";
 
 /// Whether the volume of these files is listed so.
 fn are_listed(
@@ -27,7 +24,7 @@ fn are_listed(
 /// sound are taken as they are.
 const OTHER_FILES: &[Part] = &[
     Part {
-        name: POLICY,
+        name: POLICY_NAME,
         kind: 0x07,
         attributes: 0,
         off: 0,
@@ -41,14 +38,14 @@ const OTHER_FILES: &[Part] = &[
         body: NO_IMAGE,
     },
     Part {
-        name: POLICY,
+        name: POLICY_NAME,
         kind: 0x02,
         attributes: 0x40,
         off: 0,
-        body: TEXT,
+        body: NO_RULES,
     },
     Part {
-        name: POLICY,
+        name: POLICY_NAME,
         kind: 0x02,
         attributes: 0,
         off: 0,
@@ -64,12 +61,12 @@ const OTHER_FILES: &[Part] = &[
 ];
 
 const OTHER_FILES_REPORT: &[&[u8]] = &[
-    b"volume 000000e0 ffs2 files 5
+    b"volume 000000f0 ffs2 files 5
 file 00000048 4d4d5350-0002-4000-8000-000000000002 type 07 size 00000018 passed
 file 00000060 ffffffff-ffff-ffff-ffff-ffffffffffff type f0 size 00000020 pad
-file 00000080 4d4d5350-0002-4000-8000-000000000002 type 02 size 0000001c policy
-file 000000a0 4d4d5350-0002-4000-8000-000000000002 type 02 size 0000001c passed
-file 000000c0 746f6e61-6568-2072-6669-6c652c203031 type 02 size 0000001c passed
+file 00000080 4d4d5350-0002-4000-8000-000000000002 type 02 size 0000002c policy
+file 000000b0 4d4d5350-0002-4000-8000-000000000002 type 02 size 0000001c passed
+file 000000d0 746f6e61-6568-2072-6669-6c652c203031 type 02 size 0000001c passed
 ",
 ];
 
@@ -246,7 +243,7 @@ const LARGE: &[Part] = &[
         body: DRIVER,
     },
     Part {
-        name: POLICY,
+        name: POLICY_NAME,
         kind: 0x02,
         attributes: 0x01,
         off: 0,

@@ -3,6 +3,7 @@ use Rattle.std.proofs.Common.{◌≡◌, ◌⊎◌, inl, inr, ℕ, zero, suc, �
 use Rattle.std.proofs.Common.{nat_lt}
 use Rattle.std.specs.Prelude.{if◌then◌else◌, ◌^◌}
 use Rattle.std.proofs.lemmas.Bool.Decides.{nat_tests, eqb_tells}
+use Rattle.mm_base.specs.Kinds.{same_kind}
 use Rattle.mm_base.specs.Platform.{mmram, lane_window, device_window}
 use Rattle.mm_base.specs.Range.{Has, encloses, share_a_unit}
 use Rattle.mm_base.specs.declared.access.Kind.{Kind}
@@ -17,7 +18,7 @@ use Rattle.mm_base.specs.declared.range.Range.{Range}
 use Rattle.secure_policy.specs.declared.place.Place.{Place}
 use Rattle.secure_policy.specs.declared.place.Place.TheVariants.{Nowhere, Mmram, LaneWindow, Cells}
 use Rattle.secure_policy.specs.Places.{place_of, place_of_bytes, place_of_cells, have_cells, has_cell}
-use Rattle.secure_policy.specs.Verdicts.{Basis, verdict_on, verdict_at, verdict_by_rules, units_from, same_kind, is_for, is_given_by}
+use Rattle.secure_policy.specs.Verdicts.{Basis, verdict_on, verdict_at, verdict_by_rules, units_from, is_for, is_given_by}
 use Rattle.secure_policy.specs.Laws.{passes, AreHomes}
 
 -- both, where both hold

@@ -65,6 +65,14 @@ fn names_what_was_refused(rt: HostRuntime) -> Result<(), Fail> {
         ),
         (
             Some(Command::Check),
+            Status::BadVolume {
+                at: 55,
+                kind: BadKind::Policy(PolicyKind::Short),
+            },
+            "\"one\", byte 0x37 of the policy in its policy file: the policy ends here, and its header has 16 bytes and each of its rules 40",
+        ),
+        (
+            Some(Command::Check),
             Status::WriteFault,
             "standard output could not be written",
         ),

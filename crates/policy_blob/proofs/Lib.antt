@@ -1,0 +1,9 @@
+pub mod AppendLemmas
+pub mod FieldLemmas
+pub mod HeaderLemmas
+pub mod LawLemmas
+pub mod Offered
+pub mod PutLemmas
+pub mod RuleLemmas
+pub mod RulesLemmas
+pub mod WriteLemmas
