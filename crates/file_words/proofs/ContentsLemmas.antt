@@ -6,6 +6,7 @@ use Rattle.std.proofs.lemmas.Bool.Decides.{nat_tests}
 use Rattle.mm_base.specs.declared.volume.File.{File}
 use Rattle.mm_base.specs.declared.volume.Section.{Section}
 use Rattle.volume_reader.specs.Contents.{HasContents}
+use Rattle.volume_reader.specs.Search.{HasFirstSection}
 use Rattle.volume_reader.specs.Sections.{body_of, has_section, section_at, section_behind, SectionsLead}
 use Rattle.volume_reader.specs.declared.section_contents.Contents.{Contents}
 use Rattle.file_words.specs.JudgingInside.{LieIn}
@@ -35,6 +36,16 @@ ends_before : (end most : ℕ) (o : Option Section) → end ≤ most → IfSome 
     → IfSome o (λ section. section.at + section.length ≤ most)
 ends_before end most None h ends = tt
 ends_before end most (Some section) h ends = omega (arith, ends.within)
+
+-- the first section of a type lies in the bytes
+pub first_section_lies : (bytes : List ℕ) (file : File) (kind : ℕ) (found : Option Section) → file.body_at + file.body ≤ length bytes
+    → HasFirstSection bytes file kind found → IfSome found (λ section. section.at + section.length ≤ length bytes)
+first_section_lies bytes file kind found within has =
+    let body : List ℕ = body_of bytes file in
+    let long : length body ≡ file.body = length-take-le file.body _ (omega (arith, length-drop file.body_at bytes)) in
+    let P : Option Section → Type 0 = λ found. IfSome found (λ section. section.at + section.length ≤ length bytes) in
+    subst P (sym has.is)
+    (ends_before (file.body_at + length body) (length bytes) _ (omega (arith, long)) (found_ends body file.body_at _ 0 has.sections has.has.end has.has.reached.leads))
 
 pub contents_lie : (bytes : List ℕ) (file : File) (contents : Contents) → file.body_at + file.body ≤ length bytes
     → HasContents bytes file contents → LieIn (length bytes) contents

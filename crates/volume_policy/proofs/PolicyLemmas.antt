@@ -1,6 +1,6 @@
 -- The policy of a volume is one, or its policy file has one fault.
-use Rattle.std.proofs.Common.{◌≡◌, ◌⊎◌, inl, inr, ℕ, ◌<◌, Bool, true, false, List, All, Option, Some, None, Result, Ok, Err, IfOk, IfErr, refl, sym, ap, ◌∙◌, subst}
-use Rattle.std.proofs.lemmas.List.Elements.{All-take, All-drop}
+use Rattle.std.proofs.Common.{◌≡◌, ◌⊎◌, inl, inr, ℕ, ◌<◌, Bool, true, false, List, [], ◌∷◌, find, All, Option, Some, None, Result, Ok, Err, IfOk, IfErr, refl, sym, ap, ◌∙◌, subst}
+use Rattle.std.proofs.lemmas.List.Elements.{All-take, All-drop, All-head, All-tail}
 use Rattle.courses.proofs.VerdictLemmas.{found_or_end, first_or_end}
 use Rattle.mm_base.specs.End.{EndsBy, out_of_memory}
 use Rattle.mm_base.specs.declared.end.End.{End}
@@ -16,10 +16,10 @@ use Rattle.policy_blob.specs.Faults.{HasFault}
 use Rattle.policy_blob.specs.Spelling.{IsPolicy}
 use Rattle.policy_blob.proofs.Offered.{policy_or_fault as blob_or_fault, never_both as never_policy_and_fault, one_policy as one_of_blob, one_fault as one_fault_of_blob}
 use Rattle.volume_reader.specs.Search.{first_section, HasFirstSection}
-use Rattle.volume_reader.specs.Sections.{body_of, AreSections, HasRefusedSection, HasRefusal}
+use Rattle.volume_reader.specs.Sections.{body_of, AreSections, HasRefusal}
 use Rattle.volume_reader.proofs.Offered.{sections_or_refusal, never_sections_and_refusal, one_list_of_sections}
 use Rattle.volume_policy.specs.Laws.{PolicyOrFault, NeverBoth, OnePolicy, OneFault}
-use Rattle.volume_policy.specs.PolicyFiles.{raw_type, policy_file, HasPolicyBytes, HasNoPolicyBytes, Unsound, BadSection, NoRawSection, IsPolicyInFile, HasFaultInBytes, HasFaultInFile, IsPolicyOfFile, IsVolumePolicy, HasFaultOfFile, HasVolumePolicyFault}
+use Rattle.volume_policy.specs.PolicyFiles.{raw_type, policy_file, HasPolicyBytes, HasNoPolicyBytes, Unsound, BadSection, NoRawSection, IsPolicyInFile, HasFaultInFile, IsPolicyOfFile, IsVolumePolicy, HasFaultOfFile, HasVolumePolicyFault}
 
 module _ (bytes : List ℕ) (file : File) where
   one_section : (one other : Option Section) → HasFirstSection bytes file raw_type one → HasFirstSection bytes file raw_type other → one ≡ other
@@ -147,3 +147,19 @@ module _ (bytes : List ℕ) (files : List File) (result : Result (Option Policy)
       → (result ≡ Err (Fault fault)) ⊎ (result ≡ Err (NoMemory out_of_memory))
   told_first fault has =
       first_or_end (IsVolumePolicy bytes files) (HasVolumePolicyFault bytes files) (never_both bytes files) (one_fault bytes files) result ok err fault has
+
+-- ---- the file that is found
+
+by_test : (P : File → Type 0) (p : File → Bool) (file found : File) (files : List File) (test : Bool) → p file ≡ test → P file
+    → (find p files ≡ Some found → P found) → find p (file ∷ files) ≡ Some found → P found
+by_test P p file found files true is here rest e =
+    let same : Some file ≡ Some found = sym (rw is refl) ∙ e in
+    let one : file ≡ found = cc in
+    subst P one here
+by_test P p file found files false is here rest e = rest (sym (rw is refl) ∙ e)
+
+-- what holds of each file holds of the one that is found
+pub holds_of_found : (P : File → Type 0) (p : File → Bool) (files : List File) → All P files → (found : File) → find p files ≡ Some found → P found
+holds_of_found P p [] all found e = absurd cc
+holds_of_found P p (file ∷ files) all found e =
+    by_test P p file found files (p file) refl (All-head P file files all) (holds_of_found P p files (All-tail P file files all) found) e

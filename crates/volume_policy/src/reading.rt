@@ -51,8 +51,10 @@ fn policy_in(alloc: Global, bytes: &[u8], file: &File) -> Result<Policy, PolicyE
     ensures policy { IfOk result (IsPolicyInFile bytes.now file.now) }
     ensures fault { IfErr result (EndsBy (HasFaultInFile bytes.now file.now)) }
 {
-    let blob = policy_bytes_of(bytes, file).map_err(End::Fault)?;
-    read_policy(alloc, blob)
+    match policy_bytes_of(bytes, file) {
+        Ok(blob) => read_policy(alloc, blob),
+        Err(fault) => Err(End::Fault(fault)),
+    }
 }
 
 /// The policy file among files; linear in their number.
