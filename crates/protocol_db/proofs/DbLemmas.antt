@@ -1,15 +1,15 @@
 -- What holds of a database still holds where a row comes, and where some go.
-use Rattle.std.proofs.Common.{◌≡◌, ◌<◌, ◌≤◌, ℕ, ◌+◌, ◌-◌, ◌^◌, ◌==◌, ◌&&◌, ◌||◌, Bool, true, false, cond, not, nat_le, is_some, List, [], ◌∷◌, ◌++◌, length}
+use Rattle.std.proofs.Common.{◌≡◌, ◌<◌, ◌≤◌, ℕ, ◌+◌, ◌==◌, ◌&&◌, ◌||◌, Bool, true, false, cond, not, nat_le, is_some, List, [], ◌∷◌, ◌++◌, length}
 use Rattle.std.proofs.Common.{Option, None, Some, refl, sym, ap, subst, ◌∙◌, arith, inl, inr, true≢false}
-use Rattle.std.specs.List.{filter, All, list_any, slice_index_or}
+use Rattle.std.specs.List.{filter, All, slice_index_or}
 use Rattle.std.specs.Str.{bytes_eq}
 use Rattle.std.proofs.lemmas.Bool.{cases_eq, eqb-true, leb-false, ne_eqb}
 use Rattle.std.proofs.lemmas.List.Elements.{All-filter, All-head, All-push, All-tail}
 use Rattle.std.proofs.lemmas.List.Kept.{AllPairs-filter}
 use Rattle.std.proofs.lemmas.List.Quantifiers.{all_pairs_push}
 use Rattle.mm_base.specs.declared.guid.Guid.{Guid}
-use Rattle.protocol_db.specs.ProtocolDb.{IsDb, handle_for, is_duplicate, is_unknown, next_after}
-use Rattle.protocol_db.specs.Rows.{has_handle, is_at, is_of_handle, is_owned_by, owned_by, row_at}
+use Rattle.protocol_db.specs.ProtocolDb.{IsDb, handle_for, is_at_limit, is_duplicate, is_unknown, next_after}
+use Rattle.protocol_db.specs.Rows.{has_handle, is_at, is_owned_by, owned_by, row_at}
 use Rattle.protocol_db.specs.declared.protocol_row.Row.{Row}
 use Rattle.protocol_db.proofs.ListLemmas.{find-none, find-none-all, length-filter_filter, length-filter_push}
 use Rattle.protocol_db.proofs.RowLemmas.{Differ, is_at-back}
@@ -21,10 +21,6 @@ none-from (Some x) e = cc
 or-false-left : (a b : Bool) → (a || b) ≡ false → a ≡ false
 or-false-left true b e = e
 or-false-left false b e = refl
-
-or-false-right : (a b : Bool) → (a || b) ≡ false → b ≡ false
-or-false-right true b e = absurd (true≢false e)
-or-false-right false b e = e
 
 cond-le-one : (b : Bool) → cond b 1 0 ≤ 1
 cond-le-one true = omega arith
@@ -39,20 +35,6 @@ handle-below handle next (row ∷ rows) below any =
       | true ↦ λ same _. omega (arith, eqb-true handle row.handle same, All-head Below row rows below)
       | false ↦ λ _ later. handle-below handle next rows (All-tail Below row rows below) later
     ] refl any
-
--- a new handle is left where an installation isn't at its limit
-pub handle-left : (handle next : ℕ) (used : Bool) → next < 2 ^ 64 → (used || ((handle == 0) && (next == 2 ^ 64 - 1))) ≡ false
-    → handle ≡ 0 → next < 2 ^ 64 - 1
-handle-left handle next used small unused new =
-    elim (cases_eq next (2 ^ 64 - 1)) [
-      | inl last ↦
-          let none : ((handle == 0) && (next == 2 ^ 64 - 1)) ≡ false = or-false-right used _ unused in
-          absurd (true≢false (sym (both handle next new last) ∙ none))
-      | inr other ↦ omega (arith, other)
-    ]
-  where
-    both : (handle next : ℕ) → handle ≡ 0 → next ≡ 2 ^ 64 - 1 → ((handle == 0) && (next == 2 ^ 64 - 1)) ≡ true
-    both handle next new last = ap (λ h. (h == 0) && (next == 2 ^ 64 - 1)) new ∙ ap (λ n. n == 2 ^ 64 - 1) last
 
 -- the next handle never falls where one is installed
 pub next-rises : (handle next : ℕ) → next ≤ next_after handle next
@@ -98,21 +80,29 @@ module _ (rows : List Row) (next : ℕ) (is : IsDb rows next) where
         | inr other ↦ omega (arith, is.few owner, ap {B = ℕ} (λ b. cond b 1 0) (ne_eqb row.owner owner other))
       ])
 
-  module _ (handle : ℕ) (guid : Guid) (interface owner : ℕ) (known : is_unknown handle rows ≡ false)
-      (single : is_duplicate handle guid rows ≡ false) (limit : Bool)
-      (unused : (nat_le 16 (length (owned_by owner rows)) || limit) ≡ false) where
-    abbrev installed : Row
-    installed = record { handle = handle_for handle next; guid = guid; interface = interface; owner = owner }
+  -- what is installed leaves a database
+  module _ (frozen : Bool) (handle : ℕ) (guid : Guid) (interface owner : ℕ) (known : is_unknown handle rows ≡ false)
+      (single : is_duplicate handle guid rows ≡ false)
+      (unused : is_at_limit handle owner (record { rows = rows; next = next; frozen = frozen }) ≡ false) where
+    abbrev installed : ℕ → Row
+    installed taken = record { handle = taken; guid = guid; interface = interface; owner = owner }
 
-    pub IsDb-push : IsDb (rows ++ installed ∷ []) (next_after handle next)
+    IsDb-push : IsDb (rows ++ installed (handle_for handle next) ∷ []) (next_after handle next)
     IsDb-push = record {
-      below = All-push (λ row. row.handle < next_after handle next) rows installed
+      below = All-push (λ row. row.handle < next_after handle next) rows (installed (handle_for handle next))
           (λ k d in'. omega (arith, is.below k d in', next-rises handle next)) (taken-below handle known);
-      apart = all_pairs_push Differ rows installed is.apart
-          (λ k d in'. is_at-back (slice_index_or rows k d) installed
-          ∙ find-none-all (is_at installed.handle guid) rows (absent handle guid single) k d in');
-      few = few-push installed (or-false-left _ limit unused);
+      apart = all_pairs_push Differ rows (installed (handle_for handle next)) is.apart
+          (λ k d in'. is_at-back (slice_index_or rows k d) (installed (handle_for handle next))
+          ∙ find-none-all (is_at (handle_for handle next) guid) rows (absent handle guid single) k d in');
+      few = few-push (installed (handle_for handle next)) (or-false-left _ _ unused);
     }
+
+    -- as the code has its rows and its next handle
+    pub IsDb-pushed : (new : List Row) (taken after : ℕ) → new ≡ rows ++ installed taken ∷ [] → taken ≡ handle_for handle next
+        → after ≡ next_after handle next → IsDb new after
+    IsDb-pushed new taken after new_is taken_is after_is =
+        subst (λ n. IsDb new n) (sym after_is)
+        (subst (λ l. IsDb l (next_after handle next)) (sym (new_is ∙ ap (λ t. rows ++ installed t ∷ []) taken_is)) IsDb-push)
 
   pub IsDb-filter : (p : Row → Bool) → IsDb (filter p rows) next
   IsDb-filter p = record {

@@ -1,7 +1,7 @@
 -- Rows under their keys: what a look-up by key finds, and what its removal leaves.
-use Rattle.std.proofs.Common.{◌≡◌, ℕ, Bool, true, false, cond, not, List, [], ◌∷◌, ◌++◌, Option, None, Some, refl, sym, ap, ◌∙◌}
+use Rattle.std.proofs.Common.{◌≡◌, ℕ, Bool, true, false, cond, not, List, [], ◌∷◌, ◌++◌, None, Some, refl, sym, ap, ◌∙◌}
 use Rattle.std.specs.List.{filter, All}
-use Rattle.std.specs.Map.{keys_of, values_of, lookup, remove_entry}
+use Rattle.std.specs.Map.{values_of, lookup, remove_entry}
 use Rattle.std.proofs.lemmas.List.Elements.{All-cons, All-head, All-push, All-tail}
 use Rattle.indexmap.specs.IndexMap.{IndexMap, insert_entry, values}
 use Rattle.indexmap.proofs.CallerLemmas.{insert_entry-new}
@@ -66,14 +66,14 @@ values-filter p (entry ∷ entries) =
       | false ↦ values-filter p entries
     ]
 
-module _ {S : Type 0} (map : IndexMap Key Row S) (eq : Key → Key → Bool) (key : Key) (row : Row) (keyed : AreKeyed map.entries)
-    (its : key ≡ key_of row) (same : (other : Row) → eq (key_of row) (key_of other) ≡ is_at row.handle row.guid other)
-    (none : row_at row.handle row.guid (values map) ≡ None) where
-  -- a row whose handle and GUID no row has goes last, under its key
-  pub insert_entry-row : insert_entry eq map.entries key row ≡ map.entries ++ (key, row) ∷ []
-  insert_entry-row =
-      insert_entry-new eq map key row
-      (ap (λ k. lookup (eq k) map.entries) its ∙ lookup-row_at row.handle row.guid (eq (key_of row)) same map.entries keyed ∙ none)
+-- one more row under its key
+pub AreKeyed-push : (entries : List (Key × Row)) (key : Key) (row : Row) → AreKeyed entries → key ≡ key_of row → AreKeyed (entries ++ (key, row) ∷ [])
+AreKeyed-push entries key row keyed its = All-push IsKeyed entries (key, row) keyed its
 
-  pub AreKeyed-push : AreKeyed (map.entries ++ (key, row) ∷ [])
-  AreKeyed-push = All-push IsKeyed map.entries (key, row) keyed its
+-- a row whose handle and GUID no row has goes last, under its key
+pub insert_entry-row : {S : Type 0} (map : IndexMap Key Row S) (eq : Key → Key → Bool) (key : Key) (row : Row) → AreKeyed map.entries
+    → key ≡ key_of row → ((other : Row) → eq (key_of row) (key_of other) ≡ is_at row.handle row.guid other)
+    → row_at row.handle row.guid (values map) ≡ None → insert_entry eq map.entries key row ≡ map.entries ++ (key, row) ∷ []
+insert_entry-row map eq key row keyed its same none =
+    insert_entry-new eq map key row
+    (ap (λ k. lookup (eq k) map.entries) its ∙ lookup-row_at row.handle row.guid (eq (key_of row)) same map.entries keyed ∙ none)

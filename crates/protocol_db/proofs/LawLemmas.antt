@@ -1,7 +1,7 @@
 -- What follows of rows, of what is installed and of what is removed.
-use Rattle.std.proofs.Common.{◌≡◌, ◌≤◌, ℕ, ◌==◌, ◌&&◌, ◌||◌, Bool, true, false, cond, not, List, [], ◌∷◌, ◌++◌}
-use Rattle.std.proofs.Common.{Option, None, Some, slice_get, refl, sym, ap, ◌∙◌, true≢false}
-use Rattle.std.specs.List.{filter, find, All, list_any, slice_index_or}
+use Rattle.std.proofs.Common.{◌≡◌, ℕ, ◌==◌, ◌&&◌, ◌||◌, Bool, true, false, cond, not, List, [], ◌∷◌, ◌++◌}
+use Rattle.std.proofs.Common.{Option, None, Some, refl, sym, ap, ◌∙◌, true≢false}
+use Rattle.std.specs.List.{find, All, slice_index_or}
 use Rattle.std.specs.Option.{option_or}
 use Rattle.std.specs.Str.{bytes_eq}
 use Rattle.std.proofs.lemmas.List.{append-nil}
@@ -10,11 +10,11 @@ use Rattle.std.proofs.lemmas.List.Folds.{find-append, list_any_none}
 use Rattle.std.proofs.lemmas.Slice.Eq.{bytes_eq-Decides}
 use Rattle.mm_base.specs.Guid.{same_guid}
 use Rattle.mm_base.specs.declared.guid.Guid.{Guid}
-use Rattle.protocol_db.specs.ProtocolDb.{DbState, IsDb, handle_for, is_duplicate, row_for, with_row}
+use Rattle.protocol_db.specs.ProtocolDb.{DbState, IsDb, is_duplicate, row_for}
 use Rattle.protocol_db.specs.Rows.{AreApart, first_of, has_handle, is_at, is_of_guid, is_of_handle, row_at, rows_of, without_row}
 use Rattle.protocol_db.specs.declared.protocol_row.Row.{Row}
-use Rattle.protocol_db.proofs.DbLemmas.{absent, new-fresh, next-rises}
-use Rattle.protocol_db.proofs.ListLemmas.{AllPairs-head, AllPairs-tail, filter-passes, find-filter, find-none-all, none≢some}
+use Rattle.protocol_db.proofs.DbLemmas.{absent, new-fresh}
+use Rattle.protocol_db.proofs.ListLemmas.{AllPairs-head, AllPairs-tail, filter-passes, find-none-all, none≢some}
 use Rattle.protocol_db.proofs.RowLemmas.{Differ, is_at-back, is_at-same, is_at-self, same_bytes, same_handle, without_row-later}
 
 pub each_is_found : (rows : List Row) → AreApart rows → All (λ row. row_at row.handle row.guid rows ≡ Some row) rows

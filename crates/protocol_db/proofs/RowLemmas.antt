@@ -1,15 +1,14 @@
 -- Rows by handle and GUID: when two are of one, and what is found where they are apart.
-use Rattle.std.proofs.Common.{◌≡◌, ℕ, ◌+◌, ◌==◌, ◌&&◌, Bool, true, false, cond, not, List, [], ◌∷◌, ◌++◌, length, Option, None, Some}
+use Rattle.std.proofs.Common.{◌≡◌, ℕ, ◌+◌, ◌==◌, ◌&&◌, Bool, true, false, cond, not, List, [], ◌∷◌, length, Option, None, Some}
 use Rattle.std.proofs.Common.{refl, sym, ap, ◌∙◌, arith, eq-eqb}
-use Rattle.std.specs.List.{filter, find, All, AllPairs, slice_index_or}
+use Rattle.std.specs.List.{All, slice_index_or}
 use Rattle.std.specs.Str.{bytes_eq}
 use Rattle.std.proofs.lemmas.Bool.{eqb-true}
-use Rattle.std.proofs.lemmas.List.Elements.{All-cons, All-head, All-tail}
 use Rattle.std.proofs.lemmas.Slice.Eq.{bytes_eq-Decides}
 use Rattle.mm_base.specs.declared.guid.Guid.{Guid}
 use Rattle.protocol_db.specs.Rows.{AreApart, is_at, is_interface, row_at, row_with, without_row}
 use Rattle.protocol_db.specs.declared.protocol_row.Row.{Row}
-use Rattle.protocol_db.proofs.ListLemmas.{AllPairs-head, AllPairs-tail, both_ways, filter-all, find-none, find-none-all}
+use Rattle.protocol_db.proofs.ListLemmas.{AllPairs-head, AllPairs-tail, both_ways, filter-all, find-none, find-none-all, none≢some}
 
 -- The second is not of the first's handle and GUID.
 abbrev pub Differ : Row → Row → Type 0
@@ -105,3 +104,12 @@ module _ (handle : ℕ) (guid : Guid) where
     -- where there is no row of this handle and GUID, none has the interface
     pub row_with-none : (rows : List Row) → row_at handle guid rows ≡ None → row_with handle guid interface rows ≡ None
     row_with-none rows none = row_with-later rows (find-none-all (is_at handle guid) rows none)
+
+    -- so where one has it, removing it removes one
+    pub without_row-alone_with : (rows : List Row) (row : Row) → AreApart rows → row_with handle guid interface rows ≡ Some row
+        → length rows ≡ length (without_row handle guid rows) + 1
+    without_row-alone_with rows row apart found =
+        elim (row_at handle guid rows) as (λ at. row_at handle guid rows ≡ at → length rows ≡ length (without_row handle guid rows) + 1) [
+          | None ↦ λ none. absurd (none≢some row (sym (row_with-none rows none) ∙ found))
+          | Some one ↦ λ there. without_row-alone rows one apart there
+        ] refl

@@ -1,5 +1,5 @@
 -- What follows of rows, of what is installed and of what is removed, in the words of the services that images call.
-use Rattle.std.specs.Prelude.{◌≡◌, ℕ, ◌≤◌, ◌==◌, ◌&&◌, Bool, true, false, List, [], ◌∷◌, ◌++◌, slice_get, All, Option, None, Some}
+use Rattle.std.specs.Prelude.{◌≡◌, ℕ, ◌≤◌, ◌==◌, ◌&&◌, true, false, List, [], ◌∷◌, ◌++◌, slice_get, All, None, Some}
 use Rattle.mm_base.specs.Guid.{same_guid}
 use Rattle.mm_base.specs.declared.guid.Guid.{Guid}
 use Rattle.protocol_db.specs.ProtocolDb.{DbState, IsDb, handle_for, is_duplicate, row_for, with_row}

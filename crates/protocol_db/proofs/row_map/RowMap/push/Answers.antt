@@ -4,7 +4,6 @@ use Rattle.std.proofs.lemmas.List.{map-append}
 use Rattle.protocol_db.specs.KeysInside.{AreKeyed}
 use Rattle.protocol_db.specs.Rows.{row_at}
 use Rattle.protocol_db.specs.declared.protocol_row.Row.{Row}
-use Rattle.protocol_db.specs.declared.row_map.Key.{Key}
 use Rattle.protocol_db.proofs.KeyLemmas.{AreKeyed-push, insert_entry-row}
 use Rattle.protocol_db.proofs.row_map.RowMap.push.Goals as goal
 
@@ -15,7 +14,7 @@ invariant_of-self-2 c =
     subst AreKeyed
     (sym (c.in_ok-insert.ensures.entries
     ∙ insert_entry-row c.self.inside.rows _ c.of.result c.args.row c.self.invariant c.of.ensures (λ row. refl) none))
-    (AreKeyed-push c.self.inside.rows _ c.of.result c.args.row c.self.invariant c.of.ensures (λ row. refl) none)
+    (AreKeyed-push c.self.inside.rows.entries c.of.result c.args.row c.self.invariant c.of.ensures)
 
 pub returns-clause-ok : goal.returns-clause-ok
 returns-clause-ok c =

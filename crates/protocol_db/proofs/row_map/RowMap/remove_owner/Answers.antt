@@ -1,4 +1,4 @@
-use Rattle.std.proofs.Common.{◌≡◌, Bool, not, List, rules, sym, ap, subst, ◌∙◌}
+use Rattle.std.proofs.Common.{◌≡◌, Bool, not, rules, sym, ap, subst, ◌∙◌}
 use Rattle.std.specs.List.{filter}
 use Rattle.std.specs.Map.{values_of}
 use Rattle.std.proofs.lemmas.List.Elements.{All-filter}
@@ -13,12 +13,16 @@ use Rattle.protocol_db.proofs.row_map.RowMap.remove_owner.Goals as goal
 pub invariant_of-self : goal.invariant_of-self
 invariant_of-self c =
     let stays : Key × Row → Bool = λ entry. not (is_owned_by c.args.owner entry.1) in
-    subst AreKeyed (sym (filter-RetainsPairs _ stays _ (λ k v b w g call. search rules) _ _ c.retain.ensures.filtered))
+    let kept : c.retain.new.self.entries ≡ filter stays c.self.inside.rows.entries =
+    filter-RetainsPairs _ stays _ (λ k v b w g call. search rules) _ _ c.retain.ensures.filtered in
+    subst AreKeyed (sym kept)
     (All-filter stays IsKeyed c.self.inside.rows.entries c.self.invariant)
 
 pub returns : goal.returns
 returns c =
     let stays : Key × Row → Bool = λ entry. not (is_owned_by c.args.owner entry.1) in
-    ap values_of (filter-RetainsPairs _ stays _ (λ k v b w g call. search rules) _ _ c.retain.ensures.filtered)
+    let kept : c.retain.new.self.entries ≡ filter stays c.self.inside.rows.entries =
+    filter-RetainsPairs _ stays _ (λ k v b w g call. search rules) _ _ c.retain.ensures.filtered in
+    ap values_of kept
     ∙ values-filter (λ row. not (is_owned_by c.args.owner row)) c.self.inside.rows.entries
     ∙ ap (without_owner c.args.owner) c.self.view_is
