@@ -1,5 +1,4 @@
 use Rattle.std.proofs.Common.{◌<◌, not, arith}
-use Rattle.std.specs.List.{All}
 use Rattle.std.proofs.lemmas.List.Elements.{All-filter}
 use Rattle.protocol_db.specs.Rows.{is_owned_by}
 use Rattle.protocol_db.proofs.tests.forget.Goals as goal
