@@ -1,10 +1,11 @@
 -- Rows under their keys: what a look-up by key finds, and what its removal leaves.
-use Rattle.std.proofs.Common.{◌≡◌, ℕ, Bool, true, false, cond, not, List, [], ◌∷◌, ◌++◌, None, Some, refl, sym, ap, ◌∙◌}
+use Rattle.std.proofs.Common.{◌≡◌, ℕ, Bool, true, false, cond, not, List, [], ◌∷◌, ◌++◌, None, Some, refl, sym, ap, subst, ◌∙◌}
 use Rattle.std.specs.List.{filter, All}
 use Rattle.std.specs.Map.{values_of, lookup, remove_entry}
-use Rattle.std.proofs.lemmas.List.Elements.{All-cons, All-head, All-push, All-tail}
+use Rattle.std.specs.Map.Calls.{RetainsPairs}
+use Rattle.std.proofs.lemmas.List.Elements.{All-cons, All-filter, All-head, All-push, All-tail}
 use Rattle.indexmap.specs.IndexMap.{IndexMap, insert_entry, values}
-use Rattle.indexmap.proofs.CallerLemmas.{insert_entry-new}
+use Rattle.indexmap.proofs.CallerLemmas.{filter-RetainsPairs, insert_entry-new}
 use Rattle.mm_base.specs.declared.guid.Guid.{Guid}
 use Rattle.protocol_db.specs.KeysInside.{AreKeyed, key_of}
 use Rattle.protocol_db.specs.Rows.{AreApart, is_at, row_at, without_row}
@@ -77,3 +78,16 @@ pub insert_entry-row : {S : Type 0} (map : IndexMap Key Row S) (eq : Key → Key
 insert_entry-row map eq key row keyed its same none =
     insert_entry-new eq map key row
     (ap (λ k. lookup (eq k) map.entries) its ∙ lookup-row_at row.handle row.guid (eq (key_of row)) same map.entries keyed ∙ none)
+
+-- What is kept of entries by a test of their rows, which keeps no state and leaves each row as it was.
+module _ {F : Type 0} (T : F → Key → Row → Bool → Row → F → Type 0) (stays : Row → Bool) (f : F)
+    (says : (k : Key) (v : Row) (b : Bool) (w : Row) (g : F) → T f k v b w g → (b ≡ stays v) × (w ≡ v) × (g ≡ f))
+    (entries kept : List (Key × Row)) (retained : RetainsPairs T f entries kept) where
+  kept-filter : kept ≡ filter (λ entry. stays entry.1) entries
+  kept-filter = filter-RetainsPairs T (λ entry. stays entry.1) f says entries kept retained
+
+  pub AreKeyed-retained : AreKeyed entries → AreKeyed kept
+  AreKeyed-retained keyed = subst AreKeyed (sym kept-filter) (All-filter (λ entry. stays entry.1) IsKeyed entries keyed)
+
+  pub values-retained : values_of kept ≡ filter stays (values_of entries)
+  values-retained = ap values_of kept-filter ∙ values-filter stays entries

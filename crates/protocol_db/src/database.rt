@@ -66,7 +66,7 @@ pub enum FindEnd {
 
 /// The interfaces of handles in order of installation. New handles rise from 256, and none is used again unless the next
 /// one is set back by `forget`.
-#[derive(Drop)]
+#[derive(Debug, Drop)]
 pub struct ProtocolDb {
     rows: RowMap,
     next: u64,

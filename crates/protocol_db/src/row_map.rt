@@ -29,7 +29,7 @@ impl Key {
 }
 
 /// The rows. Contracts see them as a list.
-#[derive(Drop)]
+#[derive(Debug, Drop)]
 pub struct RowMap {
     rows: IndexMap<Key, Row>,
 }
