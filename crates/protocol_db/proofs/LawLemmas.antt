@@ -1,9 +1,10 @@
 -- What follows of rows, of what is installed and of what is removed.
 use Rattle.std.proofs.Common.{◌≡◌, ℕ, ◌==◌, ◌&&◌, ◌||◌, Bool, true, false, cond, not, List, [], ◌∷◌, ◌++◌}
-use Rattle.std.proofs.Common.{Option, None, Some, refl, sym, ap, ◌∙◌, true≢false}
+use Rattle.std.proofs.Common.{Option, None, Some, refl, sym, ap, ◌∙◌, eq-eqb, true≢false}
 use Rattle.std.specs.List.{find, All, slice_index_or}
 use Rattle.std.specs.Option.{option_or}
 use Rattle.std.specs.Str.{bytes_eq}
+use Rattle.std.proofs.lemmas.Bool.{eqb-true, ne_eqb}
 use Rattle.std.proofs.lemmas.List.{append-nil}
 use Rattle.std.proofs.lemmas.List.Elements.{All-cons, All-filter, All-nil, filter-append}
 use Rattle.std.proofs.lemmas.List.Folds.{find-append, list_any_none}
@@ -11,10 +12,10 @@ use Rattle.std.proofs.lemmas.Slice.Eq.{bytes_eq-Decides}
 use Rattle.mm_base.specs.Guid.{same_guid}
 use Rattle.mm_base.specs.declared.guid.Guid.{Guid}
 use Rattle.protocol_db.specs.ProtocolDb.{DbState, IsDb, is_duplicate, row_for}
-use Rattle.protocol_db.specs.Rows.{AreApart, first_of, has_handle, is_at, is_of_guid, is_of_handle, row_at, rows_of, without_row}
+use Rattle.protocol_db.specs.Rows.{AreApart, first_of, has_handle, is_at, is_of_guid, is_of_handle, is_owned_by, owned_by, row_at, rows_of, without_owner, without_row}
 use Rattle.protocol_db.specs.declared.protocol_row.Row.{Row}
 use Rattle.protocol_db.proofs.DbLemmas.{absent, new-fresh}
-use Rattle.protocol_db.proofs.ListLemmas.{AllPairs-head, AllPairs-tail, filter-passes, find-none-all, none≢some}
+use Rattle.protocol_db.proofs.ListLemmas.{AllPairs-head, AllPairs-tail, filter-apart, filter-passes, find-none-all, none≢some}
 use Rattle.protocol_db.proofs.RowLemmas.{Differ, is_at-back, is_at-same, is_at-self, same_bytes, same_handle, without_row-later}
 
 pub each_is_found : (rows : List Row) → AreApart rows → All (λ row. row_at row.handle row.guid rows ≡ Some row) rows
@@ -127,3 +128,11 @@ located_is_found guid rows apart =
 
 pub new_is_fresh : (db : DbState) → IsDb db.rows db.next → has_handle db.next db.rows ≡ false
 new_is_fresh db is = list_any_none (is_of_handle db.next) db.rows (new-fresh db.rows db.next is)
+
+pub others_keep_theirs : (owner other : ℕ) (rows : List Row) → (other == owner) ≡ false
+    → owned_by other (without_owner owner rows) ≡ owned_by other rows
+others_keep_theirs owner other rows apart =
+    filter-apart (is_owned_by other) (is_owned_by owner)
+    (λ row own. ne_eqb row.owner other
+    (λ same. true≢false (sym (eq-eqb other owner (sym same ∙ eqb-true row.owner owner own)) ∙ apart)))
+    rows

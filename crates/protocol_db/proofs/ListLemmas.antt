@@ -1,5 +1,5 @@
 -- What is found in a list, and what a filter keeps.
-use Rattle.std.proofs.Common.{◌≡◌, ◌≤◌, zero, suc, ◌+◌, Bool, true, false, cond, List, [], ◌∷◌, ◌++◌, length, None, Some}
+use Rattle.std.proofs.Common.{◌≡◌, ◌≤◌, zero, suc, ◌+◌, Bool, true, false, cond, not, List, [], ◌∷◌, ◌++◌, length, None, Some}
 use Rattle.std.proofs.Common.{slice_get, refl, sym, ap, ◌∙◌, arith, length-append}
 use Rattle.std.specs.List.{filter, find, All, AllPairs}
 use Rattle.std.proofs.lemmas.List.Elements.{All-cons, All-head, All-nil, All-tail, filter-append}
@@ -94,3 +94,24 @@ length-filter_filter p q (x ∷ xs) =
       | true ↦ omega (arith, length-kept q (q x) x (filter q (filter p xs)), length-kept q (q x) x (filter q xs))
       | false ↦ omega (arith, length-kept q (q x) x (filter q xs))
     ]
+
+-- taking out what a filter doesn't keep anyway changes nothing for it
+pub filter-apart : {X : Type 0} (p q : X → Bool) → ((x : X) → q x ≡ true → p x ≡ false) → (xs : List X)
+    → filter p (filter (λ x. not (q x)) xs) ≡ filter p xs
+filter-apart p q apart [] = refl
+filter-apart p q apart (x ∷ xs) =
+    let left = filter (λ x. not (q x)) xs in
+    elim (q x) as (λ b. q x ≡ b → filter p (cond (not b) (x ∷ left) left) ≡ cond (p x) (x ∷ filter p xs) (filter p xs)) [
+      | true ↦ λ passes. filter-apart p q apart xs ∙ sym (ap (λ b. cond b (x ∷ filter p xs) (filter p xs)) (apart x passes))
+      | false ↦ λ _. ap (λ rest. cond (p x) (x ∷ rest) rest) (filter-apart p q apart xs)
+    ] refl
+
+-- and nothing is left of what was taken out
+pub filter-out : {X : Type 0} (q : X → Bool) (xs : List X) → filter q (filter (λ x. not (q x)) xs) ≡ []
+filter-out q [] = refl
+filter-out q (x ∷ xs) =
+    let left = filter (λ x. not (q x)) xs in
+    elim (q x) as (λ b. q x ≡ b → filter q (cond (not b) (x ∷ left) left) ≡ []) [
+      | true ↦ λ _. filter-out q xs
+      | false ↦ λ fails. ap (λ b. cond b (x ∷ filter q left) (filter q left)) fails ∙ filter-out q xs
+    ] refl

@@ -3,7 +3,7 @@ use Rattle.std.specs.Prelude.{◌≡◌, ℕ, ◌≤◌, ◌==◌, ◌&&◌, tru
 use Rattle.mm_base.specs.Guid.{same_guid}
 use Rattle.mm_base.specs.declared.guid.Guid.{Guid}
 use Rattle.protocol_db.specs.ProtocolDb.{DbState, IsDb, handle_for, is_duplicate, row_for, with_row}
-use Rattle.protocol_db.specs.Rows.{AreApart, first_of, has_handle, is_at, row_at, rows_of, without_row}
+use Rattle.protocol_db.specs.Rows.{AreApart, first_of, has_handle, is_at, owned_by, row_at, rows_of, without_owner, without_row}
 use Rattle.protocol_db.specs.declared.protocol_row.Row.{Row}
 
 -- Rows of one handle and GUID are one: what is found by a row's handle and GUID is that row.
@@ -69,6 +69,17 @@ OthersStay =
     (handle other : ℕ) (guid its : Guid) (rows : List Row)
     → ((handle == other) && same_guid guid its) ≡ false
     → row_at other its (without_row handle guid rows) ≡ row_at other its rows
+
+-- An image that is forgotten has no interface left.
+abbrev pub ForgottenHasNone : Type 0
+ForgottenHasNone = (owner : ℕ) (rows : List Row) → owned_by owner (without_owner owner rows) ≡ []
+
+-- Each other image keeps its own, in their order.
+abbrev pub OthersKeepTheirs : Type 0
+OthersKeepTheirs =
+    (owner other : ℕ) (rows : List Row)
+    → (other == owner) ≡ false
+    → owned_by other (without_owner owner rows) ≡ owned_by other rows
 
 -- The first of a GUID is the one at place 0 of those of the GUID.
 abbrev pub FirstIsAtZero : Type 0

@@ -1,8 +1,8 @@
 //! Laws of rows, and the limits of a database. These functions do nothing: their contracts are the laws.
 ghost use Rattle.std.specs.Prelude.{◌≡◌};
-ghost use Rattle.protocol_db.specs.Laws.{EachIsFound, FirstIsAtZero, FirstStays, FoundIsThere, InstalledIsFound, InstalledIsLast};
-ghost use Rattle.protocol_db.specs.Laws.{LocatedIsFound, NewIsFresh, NextNeverFalls, OthersAreFound, OthersStay, RemovedGivesBack};
-ghost use Rattle.protocol_db.specs.Laws.{RemovedIsGone, UnknownHasNone};
+ghost use Rattle.protocol_db.specs.Laws.{EachIsFound, FirstIsAtZero, FirstStays, ForgottenHasNone, FoundIsThere, InstalledIsFound, InstalledIsLast};
+ghost use Rattle.protocol_db.specs.Laws.{LocatedIsFound, NewIsFresh, NextNeverFalls, OthersAreFound, OthersKeepTheirs, OthersStay};
+ghost use Rattle.protocol_db.specs.Laws.{RemovedGivesBack, RemovedIsGone, UnknownHasNone};
 
 use crate::{FIRST_HANDLE, MOST_OF_OWNER};
 
@@ -26,6 +26,12 @@ pub fn after_uninstall()
     ensures back { RemovedGivesBack }
     ensures none { RemovedIsGone }
     ensures stays { OthersStay }
+{}
+
+/// What `forget` leaves: nothing of that image, and all of each other.
+pub fn after_forget()
+    ensures none { ForgottenHasNone }
+    ensures stays { OthersKeepTheirs }
 {}
 
 /// What the three finders have to do with one another.
