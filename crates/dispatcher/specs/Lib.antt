@@ -1,0 +1,5 @@
+pub mod Drivers
+pub mod FamiliesInside
+pub mod NameIndex
+pub mod Rounds
+pub mod RoundsInside
