@@ -1,5 +1,8 @@
+pub mod CountLemmas
 pub mod FamilyLemmas
 pub mod IndexLemmas
+pub mod LawLemmas
+pub mod ListLemmas
 pub mod NameLemmas
 pub mod RootLemmas
 pub mod RoundLemmas

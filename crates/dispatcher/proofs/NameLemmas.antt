@@ -30,7 +30,7 @@ or_right true b is = refl
 or_right false b is = is
 
 module _ {X : Type 0} where
-  place_of : (xs : List X) (x d : X) → In xs x → (k : ℕ) × (k < length xs) × (get_or xs k d ≡ x)
+  pub place_of : (xs : List X) (x d : X) → In xs x → (k : ℕ) × (k < length xs) × (get_or xs k d ≡ x)
   place_of [] x d is = absurd is
   place_of (y ∷ ys) x d (inl is) = (0, omega arith, is)
   place_of (y ∷ ys) x d (inr is) =

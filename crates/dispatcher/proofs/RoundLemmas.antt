@@ -18,7 +18,7 @@ started_members : (number : ℕ) (scheduled : List Driver) → started_in number
 started_members number [] = refl
 started_members number (driver ∷ scheduled) = ap (λ rest. record { index = driver.index; round = number } ∷ rest) (started_members number scheduled)
 
-after_more : {State : Type 0} (started : State → ℕ → ℕ → State) (some more : List Started) (state : State)
+pub after_more : {State : Type 0} (started : State → ℕ → ℕ → State) (some more : List Started) (state : State)
     → after_starts started (some ++ more) state ≡ after_starts started more (after_starts started some state)
 after_more started [] more state = refl
 after_more started (start ∷ some) more state = after_more started some more (started state start.index start.round)

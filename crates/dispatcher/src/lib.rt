@@ -5,6 +5,7 @@
 mod dispatching;
 mod driver;
 mod families;
+pub mod laws;
 mod name_index;
 mod starter;
 #[cfg(test)]
