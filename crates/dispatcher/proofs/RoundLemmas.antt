@@ -1,5 +1,5 @@
 -- One round after another.
-use Rattle.std.proofs.Common.{◌≡◌, ℕ, zero, suc, ◌+◌, ◌-◌, ◌<◌, ◌≤◌, Bool, true, false, not, eqb, List, [], ◌∷◌, ◌++◌, length, map, filter, fold, All, refl, sym, ap, ◌∙◌, subst, arith, append_assoc}
+use Rattle.std.proofs.Common.{◌≡◌, ℕ, suc, ◌+◌, ◌-◌, ◌<◌, Bool, true, false, not, eqb, List, [], ◌∷◌, ◌++◌, length, map, filter, All, refl, sym, ap, ◌∙◌, subst, arith, append_assoc}
 use Rattle.std.proofs.Math.Bool.{and-true}
 use Rattle.std.proofs.lemmas.Bool.Decides.{nat_tests}
 use Rattle.std.proofs.lemmas.List.{append-nil}
@@ -83,45 +83,40 @@ module _ {State : Type 0} (installed : State → Guid → Bool) (started : State
     named : started_in (count + 1) members ≡ starts_in (count + 1) scheduled
     named = ap (started_in (count + 1)) are_scheduled ∙ started_members (count + 1) scheduled
 
-    pub goes_on : (left : List ℕ) (now : List Started) (next : State)
+    pub goes_on : (left : List ℕ) (now : List Started) (next : State) (all : List Member)
         → 0 < length members
         → picked drivers left ≡ filter (λ driver. not (is_true (installed state) driver)) (picked drivers places)
         → All (HasConditionAt drivers) left
-        → now ≡ starts ++ started_in (count + 1) members
-        → next ≡ after_starts started (started_in (count + 1) members) state
+        → all ≡ members
+        → now ≡ starts ++ started_in (count + 1) all
+        → next ≡ after_starts started (started_in (count + 1) all) state
         → Going installed started drivers initial (count + 1) left now next
-    goes_on left now next some waiting each is after = record {
-      done = going.done ++ scheduled;
-      waiting = waiting
-          ∙ (ap (filter (λ driver. not (is_true (installed state) driver))) going.waiting ∙ waits_after drivers differ (installed state) going.done);
-      each = each;
-      rest =
-          let here : List Started = starts_in (count + 1) scheduled in
-          let next_is : next ≡ opened_now = after ∙ ap (λ made. after_starts started made state) named in
-          let some_here : 0 < length scheduled = omega (arith, some, ap length are_scheduled, length_map scheduled) in
-          ap (λ made. made ++ starts_from (count + 1 + 1) (later next)) (is ∙ ap (λ made. starts ++ made) named)
-          ∙ (ap (λ state. (starts ++ here) ++ starts_from (count + 1 + 1) (later state)) next_is
-          ∙ (append_assoc starts here (starts_from (count + 1 + 1) (later opened_now))
-          ∙ (ap (λ all. starts ++ starts_from (count + 1) all) (sym (some_scheduled scheduled (later opened_now) some_here)) ∙ turned)));
-      after = after
-          ∙ (ap (after_starts started (started_in (count + 1) members)) going.after
-          ∙ (sym (after_more started starts (started_in (count + 1) members) initial) ∙ ap (λ made. after_starts started made initial) (sym is)));
-    }
+    goes_on left now next all some waiting each same all_told all_made =
+        let is : now ≡ starts ++ started_in (count + 1) members = all_told ∙ ap (λ made. starts ++ started_in (count + 1) made) same in
+        let after : next ≡ after_starts started (started_in (count + 1) members) state = all_made ∙ ap (λ made. after_starts started (started_in (count + 1) made) state) same in
+        record {
+          done = going.done ++ scheduled;
+          waiting = waiting
+              ∙ (ap (filter (λ driver. not (is_true (installed state) driver))) going.waiting ∙ waits_after drivers differ (installed state) going.done);
+          each = each;
+          rest =
+              let here : List Started = starts_in (count + 1) scheduled in
+              let next_is : next ≡ opened_now = after ∙ ap (λ made. after_starts started made state) named in
+              let some_here : 0 < length scheduled = omega (arith, some, ap length are_scheduled, length_map scheduled) in
+              ap (λ made. made ++ starts_from (count + 1 + 1) (later next)) (is ∙ ap (λ made. starts ++ made) named)
+              ∙ (ap (λ state. (starts ++ here) ++ starts_from (count + 1 + 1) (later state)) next_is
+              ∙ (append_assoc starts here (starts_from (count + 1 + 1) (later opened_now))
+              ∙ (ap (λ all. starts ++ starts_from (count + 1) all) (sym (some_scheduled scheduled (later opened_now) some_here)) ∙ turned)));
+          after = after
+              ∙ (ap (after_starts started (started_in (count + 1) members)) going.after
+              ∙ (sym (after_more started starts (started_in (count + 1) members) initial) ∙ ap (λ made. after_starts started made initial) (sym is)));
+        }
 
     pub ends : length members ≡ 0 → starts ≡ all_starts installed started drivers initial
     ends none =
         let none_here : length scheduled ≡ 0 = omega (arith, none, ap length are_scheduled, length_map scheduled) in
         sym (append-nil starts)
         ∙ (ap (λ all. starts ++ starts_from (count + 1) all) (sym (none_scheduled scheduled (later opened_now) none_here)) ∙ turned)
-
-  pub ends_past : (count : ℕ) (places : List ℕ) (starts : List Started) (state : State)
-      → Going installed started drivers initial count places starts state
-      → length drivers ≤ count
-      → starts ≡ all_starts installed started drivers initial
-  ends_past count places starts state going past =
-      let none : length drivers - count ≡ 0 = omega (arith, past) in
-      let P : ℕ → Type 0 = λ n. starts ++ starts_from (count + 1) (rounds_from installed started drivers n (count + 1) going.done state) ≡ all_starts installed started drivers initial in
-      sym (append-nil starts) ∙ subst P none going.rest
 
 -- what is said of drivers that are the same, and by a test that is the same
 

@@ -4,7 +4,7 @@ use Rattle.std.proofs.lemmas.List.{reverse-append, reverse-reverse}
 use Rattle.mm_base.proofs.ListLemmas.{map-reverse}
 use Rattle.std.specs.List.{flat_map, AllByRecursion}
 use Rattle.std.proofs.lemmas.List.Concat.{flat_map-append}
-use Rattle.dispatcher.specs.FamiliesInside.{Doing, Fits, FitsStep, cost, costs, meant}
+use Rattle.dispatcher.specs.FamiliesInside.{Doing, Fits, FitsStep, costs, meant}
 use Rattle.dispatcher.specs.Rounds.{family}
 use Rattle.dispatcher.specs.declared.driver.Member.{Member}
 use Rattle.dispatcher.specs.declared.families.Step.{Step}

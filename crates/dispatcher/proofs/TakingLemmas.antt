@@ -1,5 +1,5 @@
 -- Which drivers are waiting, place by place, and what a round takes of them.
-use Rattle.std.proofs.Common.{◌≡◌, ℕ, zero, suc, ◌+◌, ◌<◌, Bool, true, false, cond, not, List, [], ◌∷◌, ◌++◌, length, map, filter, take, get_or, slice_get, All, Option, Some, None, option_to_list, flat_map, drop, refl, sym, ap, ◌∙◌, subst, arith, inl, inr, append_assoc}
+use Rattle.std.proofs.Common.{◌≡◌, ℕ, zero, suc, ◌+◌, ◌<◌, Bool, true, false, cond, not, List, [], ◌∷◌, ◌++◌, length, map, filter, take, get_or, slice_get, All, Option, Some, None, option_to_list, flat_map, drop, sym, ap, ◌∙◌, subst, arith, inl, inr, append_assoc}
 use Rattle.std.proofs.lemmas.List.{map-append, append-nil}
 use Rattle.std.proofs.lemmas.List.Concat.{flat_map-append}
 use Rattle.std.proofs.lemmas.List.Elements.{All-push, filter_more}
@@ -80,49 +80,57 @@ module _ (installed : Guid → Bool) (drivers : List Driver) (all rest later : L
   waiting : picked drivers rest ≡ driver ∷ picked drivers later
   waiting = ap (picked drivers) first ∙ ap (λ (one : Option Driver). option_to_list one ++ picked drivers later) there_is
 
-  pub taken : (now : List Member)
-      → is_true installed driver ≡ true
+  pub taken : (now : List Member) (answer : Bool)
+      → answer ≡ is_true installed driver
+      → answer ≡ true
       → now ≡ scheduled ++ map member_of (family_of drivers driver)
       → Taking installed drivers all later now still
-  taken now holds is = record {
-    members =
-        ap (λ some. some ++ map member_of (families_at installed drivers (picked drivers later))) is
-        ∙ (append_assoc scheduled (map member_of (family_of drivers driver)) (map member_of (families_at installed drivers (picked drivers later)))
-        ∙ (ap (λ some. scheduled ++ some)
-        (sym (map-append member_of (family_of drivers driver) (families_at installed drivers (picked drivers later)))
-        ∙ sym (ap (λ b. map member_of (flat_map (family_of drivers) (cond b (driver ∷ filter (is_true installed) (picked drivers later)) (filter (is_true installed) (picked drivers later))))) holds)
-        ∙ sym (ap (λ some. map member_of (families_at installed drivers some)) waiting))
-        ∙ taking.members));
-    left =
-        ap (λ some. picked drivers still ++ some)
-        (sym (ap (λ b. cond (not b) (driver ∷ filter (λ one. not (is_true installed one)) (picked drivers later)) (filter (λ one. not (is_true installed one)) (picked drivers later))) holds)
-        ∙ sym (ap (filter (λ one. not (is_true installed one))) waiting))
-        ∙ taking.left;
-    each = taking.each;
-  }
+  taken now answer asked told is =
+      let holds : is_true installed driver ≡ true = sym asked ∙ told in
+      record {
+        members =
+            ap (λ some. some ++ map member_of (families_at installed drivers (picked drivers later))) is
+            ∙ (append_assoc scheduled (map member_of (family_of drivers driver)) (map member_of (families_at installed drivers (picked drivers later)))
+            ∙ (ap (λ some. scheduled ++ some)
+            (sym (map-append member_of (family_of drivers driver) (families_at installed drivers (picked drivers later)))
+            ∙ sym (ap (λ b. map member_of (flat_map (family_of drivers) (cond b (driver ∷ filter (is_true installed) (picked drivers later)) (filter (is_true installed) (picked drivers later))))) holds)
+            ∙ sym (ap (λ some. map member_of (families_at installed drivers some)) waiting))
+            ∙ taking.members));
+        left =
+            ap (λ some. picked drivers still ++ some)
+            (sym (ap (λ b. cond (not b) (driver ∷ filter (λ one. not (is_true installed one)) (picked drivers later)) (filter (λ one. not (is_true installed one)) (picked drivers later))) holds)
+            ∙ sym (ap (filter (λ one. not (is_true installed one))) waiting))
+            ∙ taking.left;
+        each = taking.each;
+      }
 
-  pub stays : (now : List ℕ)
+  pub stays : (now pushed : List ℕ) (answer : Bool)
       → has_condition driver ≡ true
-      → is_true installed driver ≡ false
-      → now ≡ still ++ place ∷ []
+      → answer ≡ is_true installed driver
+      → answer ≡ false
+      → now ≡ pushed
+      → pushed ≡ still ++ place ∷ []
       → Taking installed drivers all later scheduled now
-  stays now condition fails is = record {
-    members =
-        ap (λ some. scheduled ++ some)
-        (sym (ap (λ b. map member_of (flat_map (family_of drivers) (cond b (driver ∷ filter (is_true installed) (picked drivers later)) (filter (is_true installed) (picked drivers later))))) fails)
-        ∙ sym (ap (λ some. map member_of (families_at installed drivers some)) waiting))
-        ∙ taking.members;
-    left =
-        ap (λ some. some ++ filter (λ one. not (is_true installed one)) (picked drivers later)) (ap (picked drivers) is ∙ picked_more drivers still place driver there_is)
-        ∙ (append_assoc (picked drivers still) (driver ∷ []) (filter (λ one. not (is_true installed one)) (picked drivers later))
-        ∙ (ap (λ some. picked drivers still ++ some)
-        (sym (ap (λ b. cond (not b) (driver ∷ filter (λ one. not (is_true installed one)) (picked drivers later)) (filter (λ one. not (is_true installed one)) (picked drivers later))) fails)
-        ∙ sym (ap (filter (λ one. not (is_true installed one))) waiting))
-        ∙ taking.left));
-    each =
-        subst (All (HasConditionAt drivers)) (sym is)
-        (All-push (HasConditionAt drivers) still place taking.each (record { driver = driver; there = there_is; conditional = condition }));
-  }
+  stays now pushed answer condition asked told same is_pushed =
+      let fails : is_true installed driver ≡ false = sym asked ∙ told in
+      let is : now ≡ still ++ place ∷ [] = same ∙ is_pushed in
+      record {
+        members =
+            ap (λ some. scheduled ++ some)
+            (sym (ap (λ b. map member_of (flat_map (family_of drivers) (cond b (driver ∷ filter (is_true installed) (picked drivers later)) (filter (is_true installed) (picked drivers later))))) fails)
+            ∙ sym (ap (λ some. map member_of (families_at installed drivers some)) waiting))
+            ∙ taking.members;
+        left =
+            ap (λ some. some ++ filter (λ one. not (is_true installed one)) (picked drivers later)) (ap (picked drivers) is ∙ picked_more drivers still place driver there_is)
+            ∙ (append_assoc (picked drivers still) (driver ∷ []) (filter (λ one. not (is_true installed one)) (picked drivers later))
+            ∙ (ap (λ some. picked drivers still ++ some)
+            (sym (ap (λ b. cond (not b) (driver ∷ filter (λ one. not (is_true installed one)) (picked drivers later)) (filter (λ one. not (is_true installed one)) (picked drivers later))) fails)
+            ∙ sym (ap (filter (λ one. not (is_true installed one))) waiting))
+            ∙ taking.left));
+        each =
+            subst (All (HasConditionAt drivers)) (sym is)
+            (All-push (HasConditionAt drivers) still place taking.each (record { driver = driver; there = there_is; conditional = condition }));
+      }
 
 module _ (drivers : List Driver) (before after : NameIndex) (before_tells : Tells named_before drivers before) (after_tells : Tells named_after drivers after) where
   scheduled_family : (driver : Driver) → family (listed_for before) (listed_for after) (length drivers) (member_of driver) ≡ map member_of (family_of drivers driver)

@@ -1,5 +1,5 @@
 -- What follows of rounds, whatever a start makes of a state: it holds where starts fail, too.
-use Rattle.std.specs.Prelude.{◌≡◌, ◌⊎◌, true, false, Bool, ℕ, Option, List, All, Contains}
+use Rattle.std.specs.Prelude.{◌≡◌, true, false, Bool, ℕ, Option, List, All, Contains}
 use Rattle.std.specs.List.{flat_map}
 use Rattle.mm_base.specs.declared.guid.Guid.{Guid}
 use Rattle.depex.specs.Expressions.{Expression}

@@ -56,10 +56,10 @@ fn condition_holds<I: Installed>(driver: &Driver, installed: &I) -> bool
 fn is_conditional(driver: &Driver) -> bool
     ensures { result ≡ has_condition driver.now }
 {
-    match &driver.depex {
-        Some(depex) => depex.before().is_none() && depex.after().is_none(),
-        None => false,
-    }
+    let Some(depex) = &driver.depex else {
+        return false;
+    };
+    depex.before().is_none() && depex.after().is_none()
 }
 
 /// Adds a driver that goes before or after another to the list of that other's name.
@@ -138,8 +138,12 @@ impl<'a> Families<'a> {
         steps.push(Step::Family(member))?;
         while let Some(step) = steps.pop() {
             match step {
-                Step::Family(member) => self.open(member, &mut steps)?,
-                Step::Alone(member) => scheduled.push(member)?,
+                Step::Family(member) => {
+                    self.open(member, &mut steps)?;
+                }
+                Step::Alone(member) => {
+                    scheduled.push(member)?;
+                }
             }
         }
         Ok(())

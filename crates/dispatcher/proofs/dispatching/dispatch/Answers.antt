@@ -1,8 +1,4 @@
-use Rattle.std.proofs.Common.{◌≡◌, ◌<◌, arith, ◌+◌, ◌++◌, List, length, vec_len, refl, sym, ap, ◌∙◌, Bool}
-use Rattle.mm_base.specs.declared.guid.Guid.{Guid}
-use Rattle.dispatcher.specs.Rounds.{after_starts}
-use Rattle.dispatcher.specs.RoundsInside.{started_in}
-use Rattle.dispatcher.specs.declared.driver.Member.{Member}
+use Rattle.std.proofs.Common.{◌≡◌, ◌<◌, arith, length, vec_len, refl, ◌∙◌}
 use Rattle.dispatcher.proofs.RoundLemmas.{begun, each_waits, ends, goes_on, is_empty_if, is_some_if, left_waits, members_are, waiting_first}
 use Rattle.dispatcher.proofs.dispatching.dispatch.Goals as goal
 
@@ -44,7 +40,6 @@ loop-round-preserved g c =
     let starter = c.loop-round.starter in
     let state = g.S.Starter.state starter in
     let members = c.in_ok-members.members.items in
-    let number = c.loop-round.round + 1 in
     let within : c.loop-round.round < length drivers = omega (arith, c.loop-round-test.true, c.len-round-end.ensures) in
     let agrees : g.S.Installed.installed starter ≡ g.S.Starter.installed_in state = λ i guid. g.met.S.Starter.agrees starter guid i in
     record {
@@ -52,10 +47,9 @@ loop-round-preserved g c =
       going = goes_on g.S.Starter.installed_in g.S.Starter.started drivers (g.S.Starter.state c.args.starter.now) c.loop-round.round places c.loop-round.starts state members
           c.requires.names c.loop-round.invariant.going within
           (members_are of drivers (g.S.Installed.installed starter) (g.S.Starter.installed_in state) places same agrees members c.in_ok-members.ensures.items)
-          left c.start_all.new.starts (g.S.Starter.state c.start_all.new.starter)
+          left c.start_all.new.starts (g.S.Starter.state c.start_all.new.starter) c.as_slice-in-loop-round.result.now
           (omega (arith, c.in_ok-members.members.ok.0, is_some_if (vec_len c.in_ok-members.members) _ c.is_empty.ensures c.if-is_empty.false))
           (left_waits of drivers (g.S.Installed.installed starter) (g.S.Starter.installed_in state) places same agrees left c.in_ok-members.ensures.left)
           (each_waits of drivers left same c.in_ok-members.ensures.each)
-          (c.in_ok-start_all.ensures.items ∙ ap (λ (all : List Member). c.loop-round.starts ++ started_in number all) c.as_slice-in-loop-round.ensures.value)
-          (c.in_ok-start_all.ensures.after ∙ ap (λ (all : List Member). after_starts g.S.Starter.started (started_in number all) state) c.as_slice-in-loop-round.ensures.value);
+          c.as_slice-in-loop-round.ensures.value c.in_ok-start_all.ensures.items c.in_ok-start_all.ensures.after;
     }

@@ -1,7 +1,6 @@
-use Rattle.std.proofs.Common.{◌≡◌, ◌++◌, List, map, reverse, sym, ap, ◌∙◌}
+use Rattle.std.proofs.Common.{◌≡◌, map, reverse}
 use Rattle.std.proofs.lemmas.Iterator.Adapters.{YieldsList-from_rev_slice}
 use Rattle.std.proofs.lemmas.Iterator.Consumers.{YieldsList-end}
-use Rattle.dispatcher.specs.declared.driver.Member.{Member}
 use Rattle.dispatcher.proofs.StepLemmas.{put_in_front}
 use Rattle.dispatcher.proofs.families.put_families.Goals as goal
 

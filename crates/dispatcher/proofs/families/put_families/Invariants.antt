@@ -1,4 +1,4 @@
-use Rattle.std.proofs.Common.{◌≡◌, ◌++◌, map, reverse}
+use Rattle.std.proofs.Common.{◌≡◌, ◌++◌, map}
 use Rattle.dispatcher.specs.declared.families.Step.TheVariants.{Family}
 use Rattle.dispatcher.proofs.families.put_families.Given as goal
 

@@ -1,7 +1,6 @@
-use Rattle.std.proofs.Common.{◌≡◌, ◌++◌, ◌∷◌, [], List, length, reverse, sym, ap, ◌∙◌, subst}
+use Rattle.std.proofs.Common.{◌++◌, ◌∷◌, [], length, reverse, ap, ◌∙◌}
 use Rattle.dispatcher.specs.FamiliesInside.{listed_for}
 use Rattle.dispatcher.specs.declared.families.Step.{Step}
-use Rattle.dispatcher.specs.declared.families.Step.TheVariants.{Family}
 use Rattle.dispatcher.proofs.StepLemmas.{family_cheaper, family_opened, popped}
 use Rattle.dispatcher.proofs.families.Families.schedule.Goals as goal
 

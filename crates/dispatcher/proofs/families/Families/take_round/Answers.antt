@@ -1,8 +1,6 @@
-use Rattle.std.proofs.Common.{ℕ, ◌+◌, ◌++◌, ◌≡◌, List, Vec, length, get_or, drop, sym, ap, ◌∙◌, subst}
+use Rattle.std.proofs.Common.{ℕ, ◌+◌, ◌≡◌, Vec, length, get_or, drop, sym, ap, subst}
 use Rattle.std.specs.declared.alloc.Global.{Global}
-use Rattle.dispatcher.specs.Drivers.{member_of}
 use Rattle.dispatcher.specs.FamiliesInside.{Fits, Taking, listed_for}
-use Rattle.dispatcher.specs.Rounds.{family}
 use Rattle.dispatcher.specs.declared.driver.Member.{Member}
 use Rattle.dispatcher.proofs.TakingLemmas.{at_place, first_place, family_put, scheduled_fits, stays, taken}
 use Rattle.dispatcher.proofs.families.Families.take_round.Goals as goal
@@ -39,14 +37,11 @@ loop-place-preserved g c =
     elim c.if-condition_holds.branch [
       | then-condition_holds+in_ok-schedule w ↦
           subst (λ (places : Vec ℕ Global). Taking installed drivers items later c.if-condition_holds.scheduled.items places.items) (sym w.still-is)
-          (taken installed drivers items (drop index items) later place driver scheduled still first here.0 c.loop-place.invariant c.if-condition_holds.scheduled.items
-          (sym c.condition_holds.ensures ∙ w.if-condition_holds.true)
+          (taken installed drivers items (drop index items) later place driver scheduled still first here.0 c.loop-place.invariant c.if-condition_holds.scheduled.items c.condition_holds.result c.condition_holds.ensures w.if-condition_holds.true
           (family_put drivers self.before self.after self.before_tells self.after_tells driver w.member.result scheduled w.schedule.new.scheduled.items c.if-condition_holds.scheduled.items
           w.member.ensures (ap (λ (members : Vec Member Global). members.items) w.scheduled-is) w.in_ok-schedule.ensures))
       | else-condition_holds+in_ok-push w ↦
           subst (λ (members : Vec Member Global). Taking installed drivers items later members.items c.if-condition_holds.still.items) (sym w.scheduled-is)
-          (stays installed drivers items (drop index items) later place driver scheduled still first here.0 c.loop-place.invariant c.if-condition_holds.still.items
-          here.1
-          (sym c.condition_holds.ensures ∙ w.if-condition_holds.false)
-          (ap (λ (places : Vec ℕ Global). places.items) w.still-is ∙ w.in_ok-push.ensures.items))
+          (stays installed drivers items (drop index items) later place driver scheduled still first here.0 c.loop-place.invariant c.if-condition_holds.still.items w.push.new.self.items c.condition_holds.result here.1
+          c.condition_holds.ensures w.if-condition_holds.false (ap (λ (places : Vec ℕ Global). places.items) w.still-is) w.in_ok-push.ensures.items)
     ]
