@@ -19,7 +19,7 @@ use Rattle.pe_loader.specs.Loading.{difference, put, fixed, loaded}
 use Rattle.pe_loader.specs.declared.fixup.Fixup.{Fixup}
 use Rattle.pe_loader.specs.declared.fixup_kind.FixupKind.{FixupKind}
 use Rattle.pe_loader.specs.declared.fixup_kind.FixupKind.TheVariants.{Absolute, High, Low, HighLow, Dir64, Unknown}
-use Rattle.pe_loader.proofs.LoadLemmas.{stays_within}
+use Rattle.pe_loader.proofs.ApplyLemmas.{stays_within}
 use Rattle.pe_loader.proofs.LoadedLemmas.{length-plain_form, all_pass_there, passes_here}
 
 -- ---- small bytes

@@ -1,5 +1,5 @@
 -- Bytes are one image, or have one fault.
-use Rattle.std.proofs.Common.{◌≡◌, ◌⊎◌, inl, inr, ℕ, zero, suc, ◌+◌, ◌≤◌, ◌<◌, Bool, true, false, not, List, [], ◌∷◌, ◌++◌, find, Option, Some, None, Result, Ok, Err, IfOk, IfErr, refl, sym, ap, ◌∙◌, subst, arith}
+use Rattle.std.proofs.Common.{◌≡◌, ◌⊎◌, inl, inr, ℕ, ◌+◌, ◌≤◌, ◌<◌, Bool, true, false, not, List, [], ◌∷◌, ◌++◌, find, Option, Some, None, Result, Ok, Err, IfOk, IfErr, refl, sym, ap, ◌∙◌, arith}
 use Rattle.std.proofs.lemmas.Bool.{cond-true, cond-false, cases_Bool}
 use Rattle.mm_base.specs.Checks.{Check, first_failing}
 use Rattle.mm_base.specs.declared.image.Image.{Image}
@@ -10,13 +10,14 @@ use Rattle.pe_loader.specs.Headers.{header_checks, optional_at, part_count, head
 use Rattle.mm_base.specs.Range.{share_a_unit, Has}
 use Rattle.mm_base.proofs.RangeLemmas.{overlap_is_a_unit}
 use Rattle.pe_loader.specs.Sections.{part_at, range_of, section_checks, entry_check, checks}
-use Rattle.pe_loader.specs.Fixups.{Block, block_at, is_block, block_passes, IsBlockAt, Leads, fixups_in, directory_end, directory_fits, AreFixups}
-use Rattle.pe_loader.specs.Images.{image_of, IsImage, IsImageOf, AreRead, AreRefused, HasFault}
+use Rattle.pe_loader.specs.Forms.{plain_form}
+use Rattle.pe_loader.specs.Fixups.{AreRead, AreRefused}
+use Rattle.pe_loader.specs.Images.{image_of, IsImage, IsImageOf, HasFault}
 use Rattle.pe_loader.specs.LayoutInside.{IsLaidOut}
 use Rattle.pe_loader.specs.declared.fixup.Fixup.{Fixup}
 use Rattle.pe_loader.proofs.HeaderLemmas.{has_headers}
 use Rattle.pe_loader.proofs.SectionLemmas.{laid_out}
-use Rattle.pe_loader.proofs.BlockLemmas.{size_within}
+use Rattle.pe_loader.proofs.BlockLemmas.{one_list, read_or_refused, read_or_not}
 
 -- ---- checks behind others
 
@@ -94,60 +95,16 @@ laid_out_of bytes none =
     let sections : first_failing (section_checks bytes) ≡ None = sym (find_behind test (header_checks bytes) (section_checks bytes) headers) ∙ front in
     laid_out bytes (has_headers bytes headers) sections
 
--- ---- one course of blocks
-
--- Here blocks end, or one doesn't pass.
-abbrev StopsAt : List ℕ → ℕ → Type 0
-StopsAt bytes at = (is_block bytes at ≡ false) ⊎ ((is_block bytes at ≡ true) × (block_passes bytes at ≡ false))
-
-stops_or_stands : (bytes : List ℕ) (at : ℕ) (block : Block) → StopsAt bytes at → IsBlockAt bytes at block → ⊥
-stops_or_stands bytes at block (inl none) is = let there = is.there in let wrong : true ≡ false = cc in cc
-stops_or_stands bytes at block (inr bad) is = let passes = is.passes in let no = bad.1 in let wrong : true ≡ false = cc in cc
-
-pub record Same (some others : List Block) (one other : ℕ) : Type 0 where
-  pub blocks : some ≡ others
-  pub ends : one ≡ other
-
-one_course : (bytes : List ℕ) (at : ℕ) (some others : List Block) (one other : ℕ) → Leads bytes at some one → StopsAt bytes one
-    → Leads bytes at others other → StopsAt bytes other → Same some others one other
-one_course bytes at [] [] one other a stop b halt = record { blocks = refl; ends = sym a ∙ b }
-one_course bytes at [] (block ∷ others) one other a stop b halt =
-    absurd (stops_or_stands bytes at block (subst (StopsAt bytes) (sym a) stop) b.0)
-one_course bytes at (block ∷ some) [] one other a stop b halt =
-    absurd (stops_or_stands bytes at block (subst (StopsAt bytes) (sym b) halt) a.0)
-one_course bytes at (block ∷ some) (more ∷ others) one other a stop b halt =
-    let same : block ≡ more = a.0.is ∙ sym b.0.is in
-    let P : Block → Type 0 = λ b. Leads bytes (at + b.size) others other in
-    let rest = one_course bytes (at + block.size) some others one other a.1 stop (subst P (sym same) b.1) halt in
-    record { blocks = λ i. same i ∷ rest.blocks i; ends = rest.ends }
-
--- ---- relocations are read as one list of fixups, or refused
-
-pub one_list : (bytes : List ℕ) (some others : List Fixup) → AreFixups bytes some → AreFixups bytes others → some ≡ others
-one_list bytes some others a b =
-    let same = one_course bytes (relocs_of bytes).base a.blocks b.blocks a.end b.end a.leads (inl a.ends) b.leads (inl b.ends) in
-    a.are ∙ ap fixups_in same.blocks ∙ sym b.are
-
-read_or_refused : (bytes : List ℕ) (fixups : List Fixup) → AreFixups bytes fixups → AreRefused bytes → ⊥
-read_or_refused bytes fixups are (inl out) = let fits = are.fits in let wrong : true ≡ false = cc in cc
-read_or_refused bytes fixups are (inr (fits, bad)) =
-    let same = one_course bytes (relocs_of bytes).base are.blocks bad.blocks are.end bad.at are.leads (inl are.ends) bad.leads (inr (bad.there, bad.bad)) in
-    let P : ℕ → Type 0 = λ at. is_block bytes at ≡ false in
-    let none = subst P same.ends are.ends in
-    let there = bad.there in
-    let wrong : true ≡ false = cc in
-    cc
-
 -- ---- bytes are one image, or have one fault
 
 pub one_image : (bytes : List ℕ) (one other : Image) (some others : List Fixup) → IsImage bytes one some → IsImage bytes other others
     → (one ≡ other) × (some ≡ others)
 one_image bytes one other some others a b =
-    (a.says ∙ sym b.says, one_list bytes some others a.relocations b.relocations)
+    (a.says ∙ sym b.says, one_list (plain_form bytes) (image_size bytes) (relocs_of bytes) some others a.relocations b.relocations)
 
 pub never_both : (bytes : List ℕ) (image : Image) (fixups : List Fixup) (fault : PeFault) → IsImage bytes image fixups → HasFault bytes fault → ⊥
 never_both bytes image fixups fault is (inl bad) = let wrong : Some bad.check ≡ None = sym bad.first ∙ is.passes in cc
-never_both bytes image fixups fault is (inr bad) = read_or_refused bytes fixups is.relocations bad.refused
+never_both bytes image fixups fault is (inr bad) = read_or_refused (plain_form bytes) (image_size bytes) (relocs_of bytes) fixups is.relocations bad.refused
 
 pub one_fault : (bytes : List ℕ) (one other : PeFault) → HasFault bytes one → HasFault bytes other → one ≡ other
 one_fault bytes one other (inl a) (inl b) =
@@ -174,52 +131,12 @@ pub told_first : (bytes : List ℕ) (result : Result Image PeFault) → IfOk res
 told_first bytes (Ok image) ok err fault is = absurd (never_both bytes image ok.0 fault ok.1 is)
 told_first bytes (Err other) ok err fault is = ap Err (one_fault bytes other fault err is)
 
--- ---- each course of blocks stops
-
-record Stopped (bytes : List ℕ) (at : ℕ) : Type 0 where
-  pub blocks : List Block
-  pub end : ℕ
-  pub leads : Leads bytes at blocks end
-  pub stops : StopsAt bytes end
-
-stopped_from : (bytes : List ℕ) (at : ℕ) → ((place : ℕ) → at + 8 ≤ place → place ≤ directory_end bytes → Stopped bytes place) → Stopped bytes at
-stopped_from bytes at rest =
-    elim (cases_Bool (is_block bytes at)) [
-      | inl there ↦ elim (cases_Bool (block_passes bytes at)) [
-        | inl passes ↦
-            let within = size_within bytes at passes in
-            let more = rest (at + (block_at bytes at).size) (omega (arith, within.0)) within.1 in
-            record {
-              blocks = block_at bytes at ∷ more.blocks;
-              end = more.end;
-              leads = (record { there = there; is = refl; passes = passes }, more.leads);
-              stops = more.stops;
-            }
-        | inr bad ↦ record { blocks = []; end = at; leads = refl; stops = inr (there, bad) }
-      ]
-      | inr none ↦ record { blocks = []; end = at; leads = refl; stops = inl none }
-    ]
-
-stopped : (fuel : ℕ) (bytes : List ℕ) (at : ℕ) → directory_end bytes < at + fuel → at ≤ directory_end bytes → Stopped bytes at
-stopped zero bytes at far near = absurd (omega arith)
-stopped (suc fuel) bytes at far near = stopped_from bytes at (λ place behind within. stopped fuel bytes place (omega arith) within)
-
-pub read_or_not : (bytes : List ℕ) → AreRead bytes ⊎ AreRefused bytes
-read_or_not bytes =
-    elim (cases_Bool (directory_fits bytes)) [
-      | inl fits ↦
-          let course = stopped ((relocs_of bytes).length + 1) bytes (relocs_of bytes).base (omega arith) (omega arith) in
-          elim course.stops [
-            | inl ends ↦ inl (fixups_in course.blocks, record { fits = fits; blocks = course.blocks; end = course.end; leads = course.leads; ends = ends; are = refl })
-            | inr bad ↦ inr (inr (fits, record { blocks = course.blocks; at = course.end; leads = course.leads; there = bad.0; bad = bad.1 }))
-          ]
-      | inr out ↦ inr (inl out)
-    ]
+-- ---- there is one
 
 pub either : (bytes : List ℕ) → ((image : Image) × IsImageOf bytes image) ⊎ ((fault : PeFault) × HasFault bytes fault)
 either bytes = by_checks (first_failing (checks bytes)) refl
   where
-    by_relocs : first_failing (checks bytes) ≡ None → AreRead bytes ⊎ AreRefused bytes
+    by_relocs : first_failing (checks bytes) ≡ None → AreRead (plain_form bytes) (image_size bytes) (relocs_of bytes) ⊎ AreRefused (plain_form bytes) (image_size bytes) (relocs_of bytes)
         → ((image : Image) × IsImageOf bytes image) ⊎ ((fault : PeFault) × HasFault bytes fault)
     by_relocs none (inl read) = inl (image_of bytes, (read.0, record { passes = none; says = refl; relocations = read.1 }))
     by_relocs none (inr refused) =
@@ -228,7 +145,7 @@ either bytes = by_checks (first_failing (checks bytes)) refl
     by_checks : (first : Option (Check PeKind)) → first_failing (checks bytes) ≡ first
         → ((image : Image) × IsImageOf bytes image) ⊎ ((fault : PeFault) × HasFault bytes fault)
     by_checks (Some check) is = inr (record { at = check.at; kind = check.kind }, inl (record { check = check; first = is; at = refl; kind = refl }))
-    by_checks None is = by_relocs is (read_or_not bytes)
+    by_checks None is = by_relocs is (read_or_not (plain_form bytes) (image_size bytes) (relocs_of bytes))
 
 -- what an image says is what the headers say
 pub parts_of : (bytes : List ℕ) (image : Image) → image ≡ image_of bytes → image.parts ≡ part_count bytes

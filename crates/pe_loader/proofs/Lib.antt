@@ -7,6 +7,7 @@ pub mod FormLemmas
 pub mod BlockLemmas
 pub mod ImageLemmas
 pub mod LoadLemmas
+pub mod ApplyLemmas
 pub mod EntryLemmas
 pub mod LoadedLemmas
 pub mod HomeLemmas

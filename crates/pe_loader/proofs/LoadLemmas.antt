@@ -1,29 +1,16 @@
--- The plain form as it is laid out, and fixups as they are applied.
-use Rattle.std.proofs.Common.{◌≡◌, ◌⊎◌, inl, inr, ℕ, ◌+◌, ◌-◌, ◌*◌, ◌/◌, ◌≤◌, ◌<◌, true, false, cond, ltb, List, [], ◌∷◌, ◌++◌, length, get_or, take, drop, fold, sym, ap, ◌∙◌, subst, arith, below_more}
-use Rattle.std.specs.List.{list_all}
-use Rattle.std.proofs.lemmas.Bool.{cond-true, cond-false, cases_Bool, cases_lt, lt-ltb, le-ltb, and_parts, leb-true}
+-- The plain form as it is laid out.
+use Rattle.std.proofs.Common.{◌≡◌, ◌⊎◌, inl, inr, ℕ, ◌+◌, ◌-◌, ◌≤◌, ◌<◌, false, cond, ltb, List, ◌++◌, length, get_or, take, drop, sym, ap, ◌∙◌, arith, below_more}
+use Rattle.std.proofs.lemmas.Bool.{cond-true, cond-false, cases_Bool, cases_lt, lt-ltb, le-ltb}
 use Rattle.std.proofs.lemmas.Bool.Decides.{nat_tests}
 use Rattle.std.proofs.lemmas.List.{length-take-le, length-append, length-drop, get_or_append_left, get_or-append_right, get_or-take, get_or-drop}
 use Rattle.std.proofs.lemmas.List.FromFn.{fill_by_all}
-use Rattle.std.proofs.lemmas.List.Sums.{fold-append}
-use Rattle.mm_base.specs.Numbers.{number_in}
 use Rattle.mm_base.specs.declared.image.Part.{Part}
-use Rattle.mm_base.specs.declared.range.Range.{Range}
-use Rattle.pe_loader.specs.Headers.{part_count, headers_size, image_size, relocs_of}
+use Rattle.pe_loader.specs.Headers.{part_count, headers_size, image_size}
 use Rattle.pe_loader.specs.Sections.{part_at}
 use Rattle.pe_loader.specs.Forms.{copies_to, plain_byte, plain_form}
-use Rattle.pe_loader.specs.Fixups.{fixup_passes, StaysWithin, fixup_of, fixups_from, Block, block_at, is_block, block_passes, Leads, fixups_in, AreFixups}
-use Rattle.pe_loader.specs.Images.{AreRead}
-use Rattle.pe_loader.specs.Loading.{put, fixed}
+use Rattle.pe_loader.specs.Loading.{put}
 use Rattle.pe_loader.specs.LayoutInside.{IsLaidOut}
-use Rattle.pe_loader.specs.ReadingInside.{IsHead}
-use Rattle.pe_loader.specs.declared.fixup.Fixup.{Fixup}
-use Rattle.pe_loader.specs.declared.fixup_kind.FixupKind.{FixupKind}
-use Rattle.pe_loader.specs.declared.fixup_kind.FixupKind.TheVariants.{Absolute, Unknown}
-use Rattle.pe_loader.specs.declared.relocations.Head.{Head}
 use Rattle.pe_loader.proofs.FormLemmas.{copied_within, plain_of_headers, plain_of_part, plain_of_none}
-use Rattle.pe_loader.proofs.BlockLemmas.{fixups_from-more}
-use Rattle.pe_loader.proofs.ImageLemmas.{one_list}
 
 -- ---- bytes that were put somewhere
 
@@ -128,105 +115,3 @@ laid_all bytes out count all long laid =
 -- what a section copies lies in the image
 pub copy_in_image : (bytes : List ℕ) (k : ℕ) → IsLaidOut bytes → k < part_count bytes → (part_at bytes k).at + (part_at bytes k).copied ≤ image_size bytes
 copy_in_image bytes k laid h = omega (arith, (laid.each k h).to, copied_within bytes k)
-
--- ---- fixups that are applied
-
-stays_of : (size : ℕ) (directory : Range) (kind : FixupKind) (at : ℕ) → fixup_passes size directory (record { kind = kind; at = at }) ≡ true
-    → StaysWithin size (record { kind = kind; at = at })
-stays_of size directory Absolute at passes = tt
-stays_of size directory Unknown at passes = cc
-stays_of size directory _ at passes = leb-true _ _ (and_parts _ _ passes).0
-
--- one that passes stays in the image
-pub stays_within : (size : ℕ) (directory : Range) (fixup : Fixup) → fixup_passes size directory fixup ≡ true → StaysWithin size fixup
-stays_within size directory fixup passes = stays_of size directory fixup.kind fixup.at passes
-
--- the next of those that are left
-pub apply_more : (by : ℕ) (form out new : List ℕ) (page at n k word : ℕ) (fixup : Fixup) → k < n → word ≡ number_in form (at + 2 * k) 2 → fixup ≡ fixup_of page word
-    → new ≡ fixed by out fixup
-    → fold (fixed by) new (fixups_from form page (at + 2 * (k + 1)) (n - (k + 1))) ≡ fold (fixed by) out (fixups_from form page (at + 2 * k) (n - k))
-apply_more by form out new page at n k word fixup h is there now =
-    let same : fixup ≡ fixup_of page (number_in form (at + 2 * k) 2) = there ∙ ap (fixup_of page) is in
-    ap (λ (xs : List ℕ). fold (fixed by) xs (fixups_from form page (at + 2 * (k + 1)) (n - (k + 1)))) (now ∙ ap (fixed by out) same)
-    ∙ sym (ap (fold (fixed by) out) (fixups_from-more form page at n k h))
-
--- ---- blocks that are left
-
--- Blocks lead from a place to where they end, and applying their fixups to a form makes of it what all fixups make of another.
-pub record Rest (bytes : List ℕ) (by at : ℕ) (out start : List ℕ) : Type 0 where
-  pub blocks : List Block
-  pub end : ℕ
-  pub leads : Leads bytes at blocks end
-  pub ends : is_block bytes end ≡ false
-  pub gives : (fixups : List Fixup) → AreFixups bytes fixups → fold (fixed by) out (fixups_in blocks) ≡ fold (fixed by) start fixups
-
-pub rest_all : (bytes : List ℕ) (by at : ℕ) (out : List ℕ) → AreRead bytes → at ≡ (relocs_of bytes).base → Rest bytes by at out out
-rest_all bytes by at out read is =
-    let are = read.1 in
-    let P : ℕ → Type 0 = λ place. Leads bytes place are.blocks are.end in
-    record {
-      blocks = are.blocks;
-      end = are.end;
-      leads = subst P (sym is) are.leads;
-      ends = are.ends;
-      gives = λ fixups other. ap (fold (fixed by) out) (sym are.are ∙ one_list bytes read.0 fixups are other);
-    }
-
--- a block that is there passes, and the others are left behind it
-pub record RestMore (bytes : List ℕ) (by at : ℕ) (out start : List ℕ) : Type 0 where
-  pub passes : block_passes bytes at ≡ true
-  pub more : (new : List ℕ) → new ≡ fold (fixed by) out (block_at bytes at).fixups → Rest bytes by (at + (block_at bytes at).size) new start
-
-rest_cases : (bytes : List ℕ) (by at : ℕ) (out start : List ℕ) (blocks : List Block) (end : ℕ) → Leads bytes at blocks end → is_block bytes end ≡ false
-    → ((fixups : List Fixup) → AreFixups bytes fixups → fold (fixed by) out (fixups_in blocks) ≡ fold (fixed by) start fixups)
-    → is_block bytes at ≡ true → RestMore bytes by at out start
-rest_cases bytes by at out start [] end leads ends gives there =
-    let P : ℕ → Type 0 = λ place. is_block bytes place ≡ false in
-    let none = subst P (sym leads) ends in
-    let wrong : true ≡ false = sym there ∙ none in
-    cc
-rest_cases bytes by at out start (block ∷ blocks) end leads ends gives there = record {
-  passes = leads.0.passes;
-  more = λ new is.
-      let P : Block → Type 0 = λ b. Leads bytes (at + b.size) blocks end in
-      record {
-        blocks = blocks;
-        end = end;
-        leads = subst P leads.0.is leads.1;
-        ends = ends;
-        gives = λ fixups are.
-            ap (λ (xs : List ℕ). fold (fixed by) xs (fixups_in blocks)) (is ∙ ap (λ (b : Block). fold (fixed by) out b.fixups) (sym leads.0.is))
-            ∙ sym (fold-append (fixed by) out block.fixups (fixups_in blocks))
-            ∙ gives fixups are;
-      };
-}
-
-pub rest_more : (bytes : List ℕ) (by at : ℕ) (out start : List ℕ) → Rest bytes by at out start → is_block bytes at ≡ true → RestMore bytes by at out start
-rest_more bytes by at out start rest there = rest_cases bytes by at out start rest.blocks rest.end rest.leads rest.ends rest.gives there
-
--- where there is none, all fixups are applied
-end_cases : (bytes : List ℕ) (by at : ℕ) (out start : List ℕ) (blocks : List Block) (end : ℕ) → Leads bytes at blocks end
-    → ((fixups : List Fixup) → AreFixups bytes fixups → fold (fixed by) out (fixups_in blocks) ≡ fold (fixed by) start fixups)
-    → is_block bytes at ≡ false → (fixups : List Fixup) → AreFixups bytes fixups → out ≡ fold (fixed by) start fixups
-end_cases bytes by at out start [] end leads gives none fixups are = gives fixups are
-end_cases bytes by at out start (block ∷ blocks) end leads gives none fixups are =
-    let there = leads.0.there in
-    let wrong : true ≡ false = sym there ∙ none in
-    cc
-
-pub rest_ends : (bytes : List ℕ) (by at : ℕ) (out start : List ℕ) → Rest bytes by at out start → is_block bytes at ≡ false
-    → (fixups : List Fixup) → AreFixups bytes fixups → out ≡ fold (fixed by) start fixups
-rest_ends bytes by at out start rest none = end_cases bytes by at out start rest.blocks rest.end rest.leads rest.gives none
-
--- the fixups of a block, by its head, and that they pass
-pub fixups_by_head : (bytes : List ℕ) (at : ℕ) (head : Head) → IsHead bytes at head
-    → (block_at bytes at).fixups ≡ fixups_from (plain_form bytes) head.page (at + 8) ((head.size - 8) / 2)
-unfolding block_at
-fixups_by_head bytes at head is =
-    ap (λ page. fixups_from (plain_form bytes) page (at + 8) ((number_in (plain_form bytes) (at + 4) 4 - 8) / 2)) (sym is.page)
-    ∙ ap (λ size. fixups_from (plain_form bytes) head.page (at + 8) ((size - 8) / 2)) (sym is.size)
-
-pub fixups_pass : (bytes : List ℕ) (at : ℕ) → block_passes bytes at ≡ true
-    → list_all (fixup_passes (image_size bytes) (relocs_of bytes)) (block_at bytes at).fixups ≡ true
-unfolding block_passes
-fixups_pass bytes at passes = (and_parts _ _ passes).1

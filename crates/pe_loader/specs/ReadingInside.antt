@@ -1,13 +1,15 @@
 -- No public clause cites this file.
 -- How the plain form is read from its front on, without memory of its own.
-use Rattle.std.specs.Prelude.{◌≡◌, ℕ, ◌+◌, ◌-◌, ◌≤◌, ◌<◌, true, false, if◌then◌else◌, List, length, slice_index}
+use Rattle.std.specs.Prelude.{◌≡◌, ℕ, ◌+◌, ◌-◌, ◌*◌, ◌≤◌, ◌<◌, true, false, if◌then◌else◌, List, length, slice_index}
+use Rattle.std.specs.List.{list_all}
 use Rattle.pe_loader.specs.Headers.{part_count, image_size, relocs_of}
 use Rattle.pe_loader.specs.Sections.{part_at}
 use Rattle.pe_loader.specs.Forms.{copies_to, plain_byte}
 use Rattle.pe_loader.specs.LayoutInside.{EndBefore, AreInOrder}
-use Rattle.pe_loader.specs.Fixups.{block_at, is_block, directory_end}
+use Rattle.mm_base.specs.declared.range.Range.{Range}
+use Rattle.pe_loader.specs.Fixups.{fixup_passes, fixups_from, block_at, is_block, directory_end}
 use Rattle.pe_loader.specs.declared.relocations.Bounds.{Bounds}
-use Rattle.pe_loader.specs.declared.relocations.Head.{Head}
+use Rattle.pe_loader.specs.declared.head.Head.{Head}
 use Rattle.pe_loader.specs.declared.cursor.Cursor.{Cursor}
 use Rattle.pe_loader.specs.declared.cursor.Stretch.{Stretch}
 
@@ -34,10 +36,22 @@ pub record IsReady (bytes : List ℕ) (cursor : Cursor) (at : ℕ) : Type 0 wher
 pub record AreBounds (bytes : List ℕ) (bounds : Bounds) : Type 0 where
   pub size : bounds.size ≡ image_size bytes
   pub directory : bounds.directory ≡ relocs_of bytes
-  pub end : bounds.end ≡ directory_end bytes
+  pub end : bounds.end ≡ directory_end (relocs_of bytes)
 
--- a head is that of the block at a place
-pub record IsHead (bytes : List ℕ) (at : ℕ) (head : Head) : Type 0 where
-  pub there : is_block bytes at ≡ true
-  pub page : head.page ≡ (block_at bytes at).page
-  pub size : head.size ≡ (block_at bytes at).size
+-- a head is that of the block at a place of a form
+pub record IsHead (form : List ℕ) (directory : Range) (at : ℕ) (head : Head) : Type 0 where
+  pub there : is_block form directory at ≡ true
+  pub page : head.page ≡ (block_at form at).page
+  pub size : head.size ≡ (block_at form at).size
+
+-- Two forms have the same bytes in a directory.
+pub record AgreeIn (directory : Range) (one other : List ℕ) : Type 0 where
+  pub long : length one ≡ length other
+  pub same : (place : ℕ) → directory.base ≤ place → place < directory_end directory → slice_index one place ≡ slice_index other place
+
+-- So many entries of a block lie in a directory of a form, and pass there.
+pub record EntriesPass (form : List ℕ) (directory : Range) (page at count : ℕ) : Type 0 where
+  pub from : directory.base ≤ at
+  pub to : at + 2 * count ≤ directory_end directory
+  pub fits : directory_end directory ≤ length form
+  pub pass : list_all (fixup_passes (length form) directory) (fixups_from form page at count) ≡ true

@@ -3,9 +3,11 @@ ghost use Rattle.std.specs.Prelude.{◌≡◌, ◌+◌, ◌≤◌, ◌<◌, List
 ghost use Rattle.mm_base.specs.Checks.{first_failing};
 ghost use Rattle.mm_base.specs.declared.image.Image.{Image as ImageValue};
 ghost use Rattle.mm_base.specs.declared.image.PeFault.{PeFault as PeFaultValue};
-ghost use Rattle.pe_loader.specs.Headers.{FailsFirst};
+ghost use Rattle.pe_loader.specs.Headers.{image_size as image_size_told, relocs_of, FailsFirst};
 ghost use Rattle.pe_loader.specs.Sections.{part_at as part_told, checks};
-ghost use Rattle.pe_loader.specs.Images.{image_of as image_told, IsImage, IsImageOf, HasFault, HasBadRelocations, AreRead};
+ghost use Rattle.pe_loader.specs.Images.{image_of as image_told, IsImage, IsImageOf, HasFault, HasBadRelocations};
+ghost use Rattle.pe_loader.specs.Forms.{plain_form};
+ghost use Rattle.pe_loader.specs.Fixups.{AreRead};
 ghost use Rattle.pe_loader.specs.LayoutInside.{HasHeaders, IsLaidOut};
 ghost use Rattle.pe_loader.specs.declared.fixup.Fixup.{Fixup as FixupValue};
 
@@ -55,7 +57,7 @@ fn check_relocs(bytes: &[u8]) -> Result<(), PeFault>
     requires laid_out { IsLaidOut bytes.now }
     requires few { length bytes.now ≤ 16777216 }
     requires passes { first_failing (checks bytes.now) ≡ None }
-    ensures ok { OnOk result (AreRead bytes.now) }
+    ensures ok { OnOk result (AreRead (plain_form bytes.now) (image_size_told bytes.now) (relocs_of bytes.now)) }
     ensures fault { IfErr result (HasBadRelocations bytes.now) }
 {
     check(

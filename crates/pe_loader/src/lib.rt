@@ -2,10 +2,12 @@
 //! of an image its bytes where it is loaded. It never takes memory.
 #![tactic(auto)]
 
+mod applying;
 mod cursor;
 mod fields;
 mod fixup;
 mod fixup_kind;
+mod head;
 mod header;
 #[cfg(test)]
 mod inspect_tests;

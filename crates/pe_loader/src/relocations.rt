@@ -4,37 +4,27 @@ ghost use Rattle.std.specs.Bool.{OnTrue, OnFalse};
 ghost use Rattle.std.specs.List.{list_all};
 ghost use Rattle.pe_loader.specs.Headers.{image_size as image_size_told, relocs_of};
 ghost use Rattle.pe_loader.specs.Forms.{plain_form};
-ghost use Rattle.pe_loader.specs.Fixups.{fixup_passes, fixups_from, block_at, is_block, block_passes as block_is_fit, directory_end, directory_fits};
-ghost use Rattle.pe_loader.specs.Images.{AreRead, AreRefused};
+ghost use Rattle.pe_loader.specs.Fixups.{fixup_passes, fixups_from, block_at, is_block, block_passes as block_is_fit, directory_end, directory_fits, AreRead, AreRefused};
 ghost use Rattle.pe_loader.specs.LayoutInside.{HasHeaders, IsLaidOut};
 ghost use Rattle.pe_loader.specs.ReadingInside.{IsReady, AreBounds, IsHead};
 
 use crate::cursor::Cursor;
 use crate::fixup::Fixup;
+use crate::head::{HEAD_BYTES, Head};
 use crate::header::{image_size, relocs};
 use mm_base::Range;
 
-/// How many bytes a block's head has.
-pub(crate) const HEAD_BYTES: usize = 8;
-
-/// The two numbers that a block begins with.
-#[derive(Clone, Copy, Debug, PartialEq, Eq)]
-pub(crate) struct Head {
-    pub(crate) page: u32,
-    pub(crate) size: u32,
-}
-
 /// What the relocations are read within: the image's size, the directory, and where this ends.
 #[derive(Clone, Copy, Debug, PartialEq, Eq)]
-pub(crate) struct Bounds {
-    pub(crate) size: u32,
-    pub(crate) directory: Range,
-    pub(crate) end: usize,
+struct Bounds {
+    size: u32,
+    directory: Range,
+    end: usize,
 }
 
 impl Bounds {
     /// What the headers say of them.
-    pub(crate) fn of(bytes: &[u8]) -> Bounds
+    fn of(bytes: &[u8]) -> Bounds
         requires { HasHeaders bytes.now }
         ensures { AreBounds bytes.now result }
     {
@@ -48,13 +38,13 @@ impl Bounds {
 }
 
 /// The head of the block at a place, where there is one.
-pub(crate) fn head_at(bytes: &[u8], cursor: &mut Cursor, end: usize, at: usize) -> Option<Head>
+fn head_at(bytes: &[u8], cursor: &mut Cursor, end: usize, at: usize) -> Option<Head>
     requires laid_out { IsLaidOut bytes.now }
-    requires end { end ≡ directory_end bytes.now }
-    requires fits { directory_fits bytes.now ≡ true }
+    requires end { end ≡ directory_end (relocs_of bytes.now) }
+    requires fits { directory_fits (image_size_told bytes.now) (relocs_of bytes.now) ≡ true }
     requires near { at ≤ end }
     requires ready { IsReady bytes.now cursor.old at }
-    ensures head { MatchOption result (is_block bytes.now at ≡ false) (IsHead bytes.now at) }
+    ensures head { MatchOption result (is_block (plain_form bytes.now) (relocs_of bytes.now) at ≡ false) (IsHead (plain_form bytes.now) (relocs_of bytes.now) at) }
     ensures ready { IsReady bytes.now cursor.new (at + 8) }
 {
     if end - at < HEAD_BYTES {
@@ -107,10 +97,10 @@ fn size_fits(at: usize, size: usize, end: usize) -> bool
 fn block_passes(bytes: &[u8], cursor: &mut Cursor, bounds: &Bounds, at: usize, head: &Head) -> bool
     requires laid_out { IsLaidOut bytes.now }
     requires bounds { AreBounds bytes.now bounds.now }
-    requires fits { directory_fits bytes.now ≡ true }
-    requires head { IsHead bytes.now at head.now }
+    requires fits { directory_fits (image_size_told bytes.now) (relocs_of bytes.now) ≡ true }
+    requires head { IsHead (plain_form bytes.now) (relocs_of bytes.now) at head.now }
     requires ready { IsReady bytes.now cursor.old (at + 8) }
-    ensures passes { result ≡ block_is_fit bytes.now at }
+    ensures passes { result ≡ block_is_fit (plain_form bytes.now) (image_size_told bytes.now) (relocs_of bytes.now) at }
     ensures ready { OnTrue result (IsReady bytes.now cursor.new (at + head.now.size)) }
 {
     let size = head.size as usize;
@@ -130,8 +120,8 @@ fn block_passes(bytes: &[u8], cursor: &mut Cursor, bounds: &Bounds, at: usize, h
 /// Whether the relocations pass; linear in the directory.
 pub(crate) fn relocs_pass(bytes: &[u8]) -> bool
     requires { IsLaidOut bytes.now }
-    ensures passes { OnTrue result (AreRead bytes.now) }
-    ensures fails { OnFalse result (AreRefused bytes.now) }
+    ensures passes { OnTrue result (AreRead (plain_form bytes.now) (image_size_told bytes.now) (relocs_of bytes.now)) }
+    ensures fails { OnFalse result (AreRefused (plain_form bytes.now) (image_size_told bytes.now) (relocs_of bytes.now)) }
 {
     let bounds = Bounds::of(bytes);
     if bounds.end > bounds.size as usize {

@@ -9,14 +9,14 @@ use Rattle.pe_loader.proofs.relocations.block_passes.Goals as goal
 
 pub size_fits-requires-clause-near : goal.size_fits-requires-clause-near
 size_fits-requires-clause-near c =
-    omega (arith, block_room c.args.bytes.now c.args.at c.requires.head.there, leb-true _ _ c.requires.fits, c.requires.laid_out.headers.most)
+    omega (arith, block_room (plain_form c.args.bytes.now) (relocs_of c.args.bytes.now) c.args.at c.requires.head.there, leb-true _ _ c.requires.fits, c.requires.laid_out.headers.most)
 
 pub returns-then-not-size_fits-clause-passes : goal.returns-then-not-size_fits-clause-passes
 returns-then-not-size_fits-clause-passes c =
     let bytes = c.args.bytes.now in
     let head = c.args.head.now in
     let sized = sized_by c.args.at head.size _ _ _ _ c.requires.bounds.end c.size_fits.ensures c.if-not-size_fits.true in
-    sym (passes_by_head bytes c.args.at head c.requires.head
+    sym (passes_by_head (plain_form bytes) (image_size bytes) (relocs_of bytes) c.args.at head c.requires.head
     ∙ ap (λ fits. fits && list_all (fixup_passes (image_size bytes) (relocs_of bytes)) (fixups_from (plain_form bytes) head.page (c.args.at + 8) ((head.size - 8) / 2))) sized)
 
 pub returns-clause-passes : goal.returns-clause-passes
@@ -25,5 +25,5 @@ returns-clause-passes c =
     let head = c.args.head.now in
     let sized = sized_by c.args.at head.size _ _ _ _ c.requires.bounds.end c.size_fits.ensures c.if-not-size_fits.false in
     c.entries_pass.ensures.passes
-    ∙ sym (passes_by_head bytes c.args.at head c.requires.head
+    ∙ sym (passes_by_head (plain_form bytes) (image_size bytes) (relocs_of bytes) c.args.at head c.requires.head
     ∙ ap (λ fits. fits && list_all (fixup_passes (image_size bytes) (relocs_of bytes)) (fixups_from (plain_form bytes) head.page (c.args.at + 8) ((head.size - 8) / 2))) sized)

@@ -13,7 +13,7 @@ returns-then-not-passes-clause-passes c =
     let bytes = c.args.bytes.now in
     let k = c.loop-k.k in
     let test : Fixup → Bool = fixup_passes (image_size bytes) (relocs_of bytes) in
-    let told = told_of bytes _ _ _ _ _ _ c.requires.bounds.size c.requires.bounds.directory c.of.ensures c.passes.ensures c.if-not-passes.true in
+    let told = told_of _ _ _ _ _ _ _ _ c.requires.bounds.size c.requires.bounds.directory c.of.ensures c.passes.ensures c.if-not-passes.true in
     let more = all_more test (plain_form bytes) c.args.page c.args.at c.args.count k c.word-word.result (omega arith) c.word-word.ensures.number in
     sym (sym c.loop-k.invariant.rest ∙ more ∙ ap (λ here. here && list_all test (fixups_from (plain_form bytes) c.args.page (c.args.at + 2 * (k + 1)) (c.args.count - (k + 1)))) told)
 
@@ -22,7 +22,7 @@ loop-k-preserved c =
     let bytes = c.args.bytes.now in
     let k = c.loop-k.k in
     let test : Fixup → Bool = fixup_passes (image_size bytes) (relocs_of bytes) in
-    let told = told_of bytes _ _ _ _ _ _ c.requires.bounds.size c.requires.bounds.directory c.of.ensures c.passes.ensures c.if-not-passes.false in
+    let told = told_of _ _ _ _ _ _ _ _ c.requires.bounds.size c.requires.bounds.directory c.of.ensures c.passes.ensures c.if-not-passes.false in
     let more = all_more test (plain_form bytes) c.args.page c.args.at c.args.count k c.word-word.result (omega arith) c.word-word.ensures.number in
     record {
       ready = ready_later bytes _ (c.args.at + 2 * k + 2) _ (omega arith) c.word-word.ensures.ready;
