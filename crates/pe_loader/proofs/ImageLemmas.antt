@@ -1,6 +1,7 @@
 -- Bytes are one image, or have one fault.
-use Rattle.std.proofs.Common.{◌≡◌, ◌⊎◌, inl, inr, ℕ, ◌+◌, ◌≤◌, ◌<◌, Bool, true, false, not, List, [], ◌∷◌, ◌++◌, find, Option, Some, None, Result, Ok, Err, IfOk, IfErr, refl, sym, ap, ◌∙◌, arith}
+use Rattle.std.proofs.Common.{◌≡◌, ◌⊎◌, inl, inr, ℕ, ◌+◌, ◌≤◌, ◌<◌, Bool, true, false, not, List, [], ◌∷◌, ◌++◌, find, Option, Some, None, Result, Ok, Err, IfOk, IfErr, refl, sym, ap, ◌∙◌, subst, arith}
 use Rattle.std.proofs.lemmas.Bool.{cond-true, cond-false, cases_Bool}
+use Rattle.courses.proofs.VerdictLemmas.{found, first}
 use Rattle.mm_base.specs.Checks.{Check, first_failing}
 use Rattle.mm_base.specs.declared.image.Image.{Image}
 use Rattle.mm_base.specs.declared.image.PeFault.{PeFault}
@@ -9,14 +10,17 @@ use Rattle.mm_base.specs.declared.image.PeKind.TheVariants.{Reloc}
 use Rattle.pe_loader.specs.Headers.{header_checks, optional_at, part_count, headers_size, image_size, table_at, relocs_of, FailsFirst}
 use Rattle.mm_base.specs.Range.{share_a_unit, Has}
 use Rattle.mm_base.proofs.RangeLemmas.{overlap_is_a_unit}
-use Rattle.pe_loader.specs.Sections.{part_at, range_of, section_checks, entry_check, checks}
+use Rattle.pe_loader.specs.Sections.{part_at, range_of, section_checks, entry_check, layout_of, checks}
 use Rattle.pe_loader.specs.Forms.{plain_form}
 use Rattle.pe_loader.specs.Fixups.{AreRead, AreRefused}
-use Rattle.pe_loader.specs.Images.{image_of, IsImage, IsImageOf, HasFault}
-use Rattle.pe_loader.specs.LayoutInside.{IsLaidOut}
+use Rattle.pe_loader.specs.Images.{image_of, IsImage, IsImageOf, HasBadRelocations, HasFault}
+use Rattle.pe_loader.specs.LayoutInside.{HasHeaders, IsLaidOut}
+use Rattle.pe_loader.specs.ReadingInside.{form_in}
+use Rattle.pe_loader.specs.declared.layout.Layout.{Layout}
+use Rattle.mm_base.specs.declared.range.Range.{Range}
 use Rattle.pe_loader.specs.declared.fixup.Fixup.{Fixup}
 use Rattle.pe_loader.proofs.HeaderLemmas.{has_headers}
-use Rattle.pe_loader.proofs.SectionLemmas.{laid_out}
+use Rattle.pe_loader.proofs.SectionLemmas.{laid_out, has_table}
 use Rattle.pe_loader.proofs.BlockLemmas.{one_list, read_or_refused, read_or_not}
 
 -- ---- checks behind others
@@ -61,39 +65,50 @@ fails_behind xs ys fault none fails = record {
 pub checks_by_headers : (bytes : List ℕ) (fault : PeFault) → FailsFirst (header_checks bytes) fault → FailsFirst (checks bytes) fault
 unfolding checks
 checks_by_headers bytes fault fails =
-    fails_in_front (header_checks bytes ++ section_checks bytes) (entry_check bytes ∷ []) fault (fails_in_front (header_checks bytes) (section_checks bytes) fault fails)
+    fails_in_front (header_checks bytes ++ section_checks bytes (layout_of bytes)) (entry_check bytes ∷ []) fault (fails_in_front (header_checks bytes) (section_checks bytes (layout_of bytes)) fault fails)
 
-pub checks_by_sections : (bytes : List ℕ) (fault : PeFault) → first_failing (header_checks bytes) ≡ None → FailsFirst (section_checks bytes) fault
+pub checks_by_sections : (bytes : List ℕ) (fault : PeFault) → first_failing (header_checks bytes) ≡ None → FailsFirst (section_checks bytes (layout_of bytes)) fault
     → FailsFirst (checks bytes) fault
 unfolding checks
 checks_by_sections bytes fault headers fails =
-    fails_in_front (header_checks bytes ++ section_checks bytes) (entry_check bytes ∷ []) fault (fails_behind (header_checks bytes) (section_checks bytes) fault headers fails)
+    fails_in_front (header_checks bytes ++ section_checks bytes (layout_of bytes)) (entry_check bytes ∷ []) fault (fails_behind (header_checks bytes) (section_checks bytes (layout_of bytes)) fault headers fails)
 
-both_none : (bytes : List ℕ) → first_failing (header_checks bytes) ≡ None → first_failing (section_checks bytes) ≡ None
-    → first_failing (header_checks bytes ++ section_checks bytes) ≡ None
-both_none bytes headers sections = find_behind (λ (check : Check PeKind). not check.passes) (header_checks bytes) (section_checks bytes) headers ∙ sections
+both_none : (bytes : List ℕ) → first_failing (header_checks bytes) ≡ None → first_failing (section_checks bytes (layout_of bytes)) ≡ None
+    → first_failing (header_checks bytes ++ section_checks bytes (layout_of bytes)) ≡ None
+both_none bytes headers sections = find_behind (λ (check : Check PeKind). not check.passes) (header_checks bytes) (section_checks bytes (layout_of bytes)) headers ∙ sections
 
-pub checks_by_entry : (bytes : List ℕ) (fault : PeFault) → first_failing (header_checks bytes) ≡ None → first_failing (section_checks bytes) ≡ None
+pub checks_by_entry : (bytes : List ℕ) (fault : PeFault) → first_failing (header_checks bytes) ≡ None → first_failing (section_checks bytes (layout_of bytes)) ≡ None
     → FailsFirst (entry_check bytes ∷ []) fault → FailsFirst (checks bytes) fault
 unfolding checks
 checks_by_entry bytes fault headers sections fails =
-    fails_behind (header_checks bytes ++ section_checks bytes) (entry_check bytes ∷ []) fault (both_none bytes headers sections) fails
+    fails_behind (header_checks bytes ++ section_checks bytes (layout_of bytes)) (entry_check bytes ∷ []) fault (both_none bytes headers sections) fails
 
-pub checks_pass : (bytes : List ℕ) → first_failing (header_checks bytes) ≡ None → first_failing (section_checks bytes) ≡ None
+pub checks_pass : (bytes : List ℕ) → first_failing (header_checks bytes) ≡ None → first_failing (section_checks bytes (layout_of bytes)) ≡ None
     → first_failing (entry_check bytes ∷ []) ≡ None → first_failing (checks bytes) ≡ None
 unfolding checks
 checks_pass bytes headers sections entry =
-    find_behind (λ (check : Check PeKind). not check.passes) (header_checks bytes ++ section_checks bytes) (entry_check bytes ∷ []) (both_none bytes headers sections) ∙ entry
+    find_behind (λ (check : Check PeKind). not check.passes) (header_checks bytes ++ section_checks bytes (layout_of bytes)) (entry_check bytes ∷ []) (both_none bytes headers sections) ∙ entry
 
--- where all pass, sections lie where they may
-pub laid_out_of : (bytes : List ℕ) → first_failing (checks bytes) ≡ None → IsLaidOut bytes
-unfolding checks
-laid_out_of bytes none =
-    let test : Check PeKind → Bool = λ check. not check.passes in
-    let front = none_in_front test (header_checks bytes ++ section_checks bytes) (entry_check bytes ∷ []) _ refl none in
-    let headers = none_in_front test (header_checks bytes) (section_checks bytes) _ refl front in
-    let sections : first_failing (section_checks bytes) ≡ None = sym (find_behind test (header_checks bytes) (section_checks bytes) headers) ∙ front in
-    laid_out bytes (has_headers bytes headers) sections
+-- where all pass, the headers and the sections do
+module _ (bytes : List ℕ) (none : first_failing (checks bytes) ≡ None) where
+  abbrev test : Check PeKind → Bool
+  test check = not check.passes
+
+  front_passes : first_failing (header_checks bytes ++ section_checks bytes (layout_of bytes)) ≡ None
+  unfolding checks
+  front_passes = none_in_front test (header_checks bytes ++ section_checks bytes (layout_of bytes)) (entry_check bytes ∷ []) _ refl none
+
+  headers_pass : first_failing (header_checks bytes) ≡ None
+  headers_pass = none_in_front test (header_checks bytes) (section_checks bytes (layout_of bytes)) _ refl front_passes
+
+  pub headers_there : HasHeaders bytes
+  headers_there = has_headers bytes headers_pass
+
+  pub laid_out_of : IsLaidOut bytes (layout_of bytes)
+  laid_out_of =
+      let sections : first_failing (section_checks bytes (layout_of bytes)) ≡ None =
+      sym (find_behind test (header_checks bytes) (section_checks bytes (layout_of bytes)) headers_pass) ∙ front_passes in
+      laid_out bytes (layout_of bytes) (has_table bytes headers_there) sections
 
 -- ---- bytes are one image, or have one fault
 
@@ -123,13 +138,14 @@ one_fault bytes one other (inr a) (inr b) =
 -- what a reader answers is the image, or the fault, that the bytes are
 pub told_found : (bytes : List ℕ) (result : Result Image PeFault) → IfOk result (IsImageOf bytes) → IfErr result (HasFault bytes)
     → (image : Image) (fixups : List Fixup) → IsImage bytes image fixups → result ≡ Ok image
-told_found bytes (Ok other) ok err image fixups is = ap Ok (one_image bytes other image ok.0 fixups ok.1 is).0
-told_found bytes (Err fault) ok err image fixups is = absurd (never_both bytes image fixups fault is err)
+told_found bytes result ok err image fixups is =
+    found (IsImageOf bytes) (HasFault bytes) (λ image fault is has. never_both bytes image is.0 fault is.1 has)
+    (λ one other a b. (one_image bytes one other a.0 b.0 a.1 b.1).0) result ok err image (fixups, is)
 
 pub told_first : (bytes : List ℕ) (result : Result Image PeFault) → IfOk result (IsImageOf bytes) → IfErr result (HasFault bytes)
     → (fault : PeFault) → HasFault bytes fault → result ≡ Err fault
-told_first bytes (Ok image) ok err fault is = absurd (never_both bytes image ok.0 fault ok.1 is)
-told_first bytes (Err other) ok err fault is = ap Err (one_fault bytes other fault err is)
+told_first bytes result ok err fault has =
+    first (IsImageOf bytes) (HasFault bytes) (λ image fault is has. never_both bytes image is.0 fault is.1 has) (one_fault bytes) result ok err fault has
 
 -- ---- there is one
 
@@ -184,3 +200,31 @@ sections_lie_apart bytes image fixups j k place is earlier h one other =
     (overlap_is_a_unit (range_of (part_at bytes j)) (range_of (part_at bytes k))).1 (place, (one, other)) in
     let wrong : true ≡ false = sym both ∙ apart in
     cc
+
+-- ---- an image in the PE32+ format, by its layout
+
+-- what the relocations of its layout come to
+pub read_here : (bytes : List ℕ) (layout : Layout) (directory : Range) → layout ≡ layout_of bytes → directory ≡ relocs_of bytes
+    → AreRead (form_in bytes layout) layout.size directory → AreRead (plain_form bytes) (image_size bytes) (relocs_of bytes)
+read_here bytes layout directory is there read =
+    let P : Layout → Type 0 = λ l. AreRead (form_in bytes l) l.size directory in
+    let Q : Range → Type 0 = λ d. AreRead (plain_form bytes) (image_size bytes) d in
+    subst Q there (subst P is read)
+
+pub refused_here : (bytes : List ℕ) (layout : Layout) (directory : Range) → layout ≡ layout_of bytes → directory ≡ relocs_of bytes
+    → AreRefused (form_in bytes layout) layout.size directory → AreRefused (plain_form bytes) (image_size bytes) (relocs_of bytes)
+refused_here bytes layout directory is there refused =
+    let P : Layout → Type 0 = λ l. AreRefused (form_in bytes l) l.size directory in
+    let Q : Range → Type 0 = λ d. AreRefused (plain_form bytes) (image_size bytes) d in
+    subst Q there (subst P is refused)
+
+-- the fault that refused relocations are
+pub has_bad : (bytes : List ℕ) (layout : Layout) (directory : Range) (fault : PeFault) (at : ℕ) → layout ≡ layout_of bytes → directory ≡ relocs_of bytes
+    → first_failing (checks bytes) ≡ None → AreRefused (form_in bytes layout) layout.size directory
+    → fault ≡ record { at = at + 152; kind = Reloc } → at ≡ optional_at bytes → HasBadRelocations bytes fault
+has_bad bytes layout directory fault at is there passes refused told place = record {
+  passes = passes;
+  refused = refused_here bytes layout directory is there refused;
+  at = ap (λ (f : PeFault). f.at) told ∙ ap (λ n. n + 152) place;
+  kind = ap (λ (f : PeFault). f.kind) told;
+}

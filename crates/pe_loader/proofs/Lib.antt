@@ -3,6 +3,7 @@ pub mod Offered
 pub mod HeaderLemmas
 pub mod RangeLemmas
 pub mod SectionLemmas
+pub mod OverlapLemmas
 pub mod FormLemmas
 pub mod BlockLemmas
 pub mod ImageLemmas

@@ -1,26 +1,31 @@
 -- The loaded form of an image is one, and has its size.
-use Rattle.std.proofs.Common.{◌≡◌, ℕ, ◌+◌, Bool, true, List, [], ◌∷◌, length, fold, refl, sym, ap, ◌∙◌, subst}
+use Rattle.std.proofs.Common.{◌≡◌, ℕ, ◌+◌, Bool, true, false, List, [], ◌∷◌, length, fold, refl, sym, ap, ◌∙◌, subst, arith}
 use Rattle.std.specs.List.{list_all}
 use Rattle.std.proofs.lemmas.Bool.{and_parts, and_from}
 use Rattle.std.proofs.lemmas.List.Folds.{list_all-append}
-use Rattle.std.proofs.lemmas.List.FromFn.{length-map-range_with_len}
 use Rattle.mm_base.specs.declared.image.Image.{Image}
 use Rattle.mm_base.specs.declared.range.Range.{Range}
 use Rattle.pe_loader.specs.Headers.{image_size, relocs_of}
-use Rattle.pe_loader.specs.Forms.{plain_byte, plain_form}
+use Rattle.pe_loader.specs.Sections.{layout_of}
+use Rattle.pe_loader.specs.LayoutInside.{IsLaidOut}
+use Rattle.pe_loader.specs.ReadingInside.{Shows, IsWindow}
+use Rattle.pe_loader.specs.declared.layout.Layout.{Layout}
+use Rattle.pe_loader.specs.declared.window.Window.{Window}
+use Rattle.pe_loader.specs.Forms.{plain_form}
 use Rattle.pe_loader.specs.Fixups.{fixup_passes, StaysWithin, Block, BlocksLead, fixups_in, AreFixups, AreRead}
 use Rattle.pe_loader.specs.Images.{image_of, AreRelocations, IsImage, IsImageOf}
 use Rattle.pe_loader.specs.Loading.{difference, fixed, loaded, IsLoaded}
 use Rattle.pe_loader.specs.declared.fixup.Fixup.{Fixup}
 use Rattle.pe_loader.proofs.ImageLemmas.{one_image, size_of}
+use Rattle.pe_loader.proofs.FormLemmas.{length-form}
+use Rattle.pe_loader.proofs.LoadLemmas.{form_shown}
 use Rattle.pe_loader.proofs.BlockLemmas.{fixups_pass}
 use Rattle.pe_loader.proofs.ApplyLemmas.{stays_within, fixed_length}
 
 -- ---- lengths
 
 pub length-plain_form : (bytes : List ℕ) → length (plain_form bytes) ≡ image_size bytes
-unfolding plain_form
-length-plain_form bytes = length-map-range_with_len (plain_byte bytes) 0 (image_size bytes)
+length-plain_form bytes = length-form bytes (layout_of bytes)
 
 -- fixups that pass leave the length
 module _ (by : ℕ) where
@@ -100,3 +105,34 @@ pub applied_is_loaded : (bytes : List ℕ) (image : Image) (out new : List ℕ) 
     → (fixups : List Fixup) → IsImage bytes image fixups → new ≡ loaded bytes image fixups base
 applied_is_loaded bytes image out new base by same e applied fixups is =
     applied fixups (relocations_there bytes out image fixups is.says same is.relocations) ∙ (λ i. fold (fixed (e i)) (same i) fixups)
+
+-- ---- what is laid out
+
+-- how an image says that it is laid out
+abbrev pub says_layout : Image → Layout
+says_layout image = record { headers = image.headers; size = image.size; table = image.table; count = image.parts }
+
+layout_is : (bytes : List ℕ) (image : Image) (layout : Layout) → image ≡ image_of bytes → layout ≡ says_layout image → layout ≡ layout_of bytes
+unfolding image_of
+layout_is bytes image layout says is = is ∙ ap says_layout says
+
+pub laid_by_image : (bytes : List ℕ) (image : Image) (layout : Layout) → image ≡ image_of bytes → layout ≡ says_layout image
+    → IsLaidOut bytes (layout_of bytes) → IsLaidOut bytes layout
+laid_by_image bytes image layout says is laid = subst (IsLaidOut bytes) (sym (layout_is bytes image layout says is)) laid
+
+-- a window at the front
+abbrev pub front_window : Window
+front_window = record { ordered = false; first = 0; begin = 0 }
+
+pub front_is_window : (bytes : List ℕ) (layout : Layout) (window : Window) → window ≡ front_window → IsWindow bytes layout window
+front_is_window bytes layout window is =
+    let front : IsWindow bytes layout front_window = record { order = λ e. cc; few = omega arith; ended = λ j h. absurd (omega arith) } in
+    subst (IsWindow bytes layout) (sym is) front
+
+pub front_shows_plain : (bytes out : List ℕ) (image : Image) (layout : Layout) (window : Window) → image ≡ image_of bytes → layout ≡ says_layout image
+    → window ≡ front_window → length out ≡ image_size bytes → Shows bytes layout window.begin out → out ≡ plain_form bytes
+front_shows_plain bytes out image layout window says is front long shows =
+    let P : Layout → Type 0 = λ l. Shows bytes l window.begin out in
+    let Q : ℕ → Type 0 = λ begin. Shows bytes (layout_of bytes) begin out in
+    let begin : window.begin ≡ 0 = ap (λ (w : Window). w.begin) front in
+    form_shown bytes (layout_of bytes) out long (subst Q begin (subst P (layout_is bytes image layout says is) shows))

@@ -3,7 +3,6 @@
 #![tactic(auto)]
 
 mod applying;
-mod cursor;
 mod fields;
 mod fixup;
 mod fixup_kind;
@@ -13,7 +12,11 @@ mod header;
 mod inspect_tests;
 mod inspecting;
 pub mod laws;
+mod layout;
+#[cfg(test)]
+mod many_tests;
 mod numbers;
+mod overlaps;
 mod pe_fault;
 #[cfg(test)]
 mod place_tests;
@@ -22,6 +25,8 @@ mod relocations;
 #[cfg(test)]
 mod samples;
 mod sections;
+mod span;
+mod window;
 mod writing;
 
 pub use inspecting::{inspect, part};
