@@ -1,6 +1,7 @@
 -- Bytes are one image, or have one fault.
 use Rattle.std.proofs.Common.{◌≡◌, ◌⊎◌, inl, inr, ℕ, ◌+◌, ◌≤◌, ◌<◌, Bool, true, false, not, List, [], ◌∷◌, ◌++◌, find, Option, Some, None, Result, Ok, Err, IfOk, IfErr, refl, sym, ap, ◌∙◌, subst, arith}
 use Rattle.std.proofs.lemmas.Bool.{cond-true, cond-false, cases_Bool}
+use Rattle.courses.proofs.CheckLemmas.{one_first, never_first, none_or_first}
 use Rattle.courses.proofs.VerdictLemmas.{found, first}
 use Rattle.mm_base.specs.Checks.{Check, first_failing}
 use Rattle.mm_base.specs.declared.image.Image.{Image}
@@ -49,16 +50,16 @@ pub fails_in_front : (xs ys : List (Check PeKind)) (fault : PeFault) → FailsFi
 fails_in_front xs ys fault fails = record {
   check = fails.check;
   first = find_front (λ (check : Check PeKind). not check.passes) xs ys fails.check fails.first;
-  at = fails.at;
-  kind = fails.kind;
+  kind_is = fails.kind_is;
+  place_is = fails.place_is;
 }
 
 pub fails_behind : (xs ys : List (Check PeKind)) (fault : PeFault) → first_failing xs ≡ None → FailsFirst ys fault → FailsFirst (xs ++ ys) fault
 fails_behind xs ys fault none fails = record {
   check = fails.check;
   first = find_behind (λ (check : Check PeKind). not check.passes) xs ys none ∙ fails.first;
-  at = fails.at;
-  kind = fails.kind;
+  kind_is = fails.kind_is;
+  place_is = fails.place_is;
 }
 
 -- all checks, part by part
@@ -118,18 +119,15 @@ one_image bytes one other some others a b =
     (a.says ∙ sym b.says, one_list (plain_form bytes) (image_size bytes) (relocs_of bytes) some others a.relocations b.relocations)
 
 pub never_both : (bytes : List ℕ) (image : Image) (fixups : List Fixup) (fault : PeFault) → IsImage bytes image fixups → HasFault bytes fault → ⊥
-never_both bytes image fixups fault is (inl bad) = let wrong : Some bad.check ≡ None = sym bad.first ∙ is.passes in cc
+never_both bytes image fixups fault is (inl bad) = never_first (checks bytes) fault.kind fault.at bad is.passes
 never_both bytes image fixups fault is (inr bad) = read_or_refused (plain_form bytes) (image_size bytes) (relocs_of bytes) fixups is.relocations bad.refused
 
 pub one_fault : (bytes : List ℕ) (one other : PeFault) → HasFault bytes one → HasFault bytes other → one ≡ other
 one_fault bytes one other (inl a) (inl b) =
-    let e : Some a.check ≡ Some b.check = sym a.first ∙ b.first in
-    let same : a.check ≡ b.check = cc in
-    let places : one.at ≡ other.at = a.at ∙ ap (λ (check : Check PeKind). check.at) same ∙ sym b.at in
-    let kinds : one.kind ≡ other.kind = a.kind ∙ ap (λ (check : Check PeKind). check.kind) same ∙ sym b.kind in
-    λ i. record { at = places i; kind = kinds i }
-one_fault bytes one other (inl a) (inr b) = let wrong : Some a.check ≡ None = sym a.first ∙ b.passes in cc
-one_fault bytes one other (inr a) (inl b) = let wrong : Some b.check ≡ None = sym b.first ∙ a.passes in cc
+    let same = one_first (checks bytes) one.kind other.kind one.at other.at a b in
+    λ i. record { at = same.places i; kind = same.kinds i }
+one_fault bytes one other (inl a) (inr b) = absurd (never_first (checks bytes) one.kind one.at a b.passes)
+one_fault bytes one other (inr a) (inl b) = absurd (never_first (checks bytes) other.kind other.at b a.passes)
 one_fault bytes one other (inr a) (inr b) =
     let places : one.at ≡ other.at = a.at ∙ sym b.at in
     let kinds : one.kind ≡ other.kind = a.kind ∙ sym b.kind in
@@ -150,18 +148,15 @@ told_first bytes result ok err fault has =
 -- ---- there is one
 
 pub either : (bytes : List ℕ) → ((image : Image) × IsImageOf bytes image) ⊎ ((fault : PeFault) × HasFault bytes fault)
-either bytes = by_checks (first_failing (checks bytes)) refl
-  where
-    by_relocs : first_failing (checks bytes) ≡ None → AreRead (plain_form bytes) (image_size bytes) (relocs_of bytes) ⊎ AreRefused (plain_form bytes) (image_size bytes) (relocs_of bytes)
-        → ((image : Image) × IsImageOf bytes image) ⊎ ((fault : PeFault) × HasFault bytes fault)
-    by_relocs none (inl read) = inl (image_of bytes, (read.0, record { passes = none; says = refl; relocations = read.1 }))
-    by_relocs none (inr refused) =
-        inr (record { at = optional_at bytes + 152; kind = Reloc }, inr (record { passes = none; refused = refused; at = refl; kind = refl }))
-
-    by_checks : (first : Option (Check PeKind)) → first_failing (checks bytes) ≡ first
-        → ((image : Image) × IsImageOf bytes image) ⊎ ((fault : PeFault) × HasFault bytes fault)
-    by_checks (Some check) is = inr (record { at = check.at; kind = check.kind }, inl (record { check = check; first = is; at = refl; kind = refl }))
-    by_checks None is = by_relocs is (read_or_not (plain_form bytes) (image_size bytes) (relocs_of bytes))
+either bytes =
+    elim (none_or_first (checks bytes)) [
+      | inl none ↦ elim (read_or_not (plain_form bytes) (image_size bytes) (relocs_of bytes)) [
+        | inl read ↦ inl (image_of bytes, (read.0, record { passes = none; says = refl; relocations = read.1 }))
+        | inr refused ↦
+            inr (record { at = optional_at bytes + 152; kind = Reloc }, inr (record { passes = none; refused = refused; at = refl; kind = refl }))
+      ]
+      | inr (check, fails) ↦ inr (record { at = check.at; kind = check.kind }, inl fails)
+    ]
 
 -- what an image says is what the headers say
 pub parts_of : (bytes : List ℕ) (image : Image) → image ≡ image_of bytes → image.parts ≡ part_count bytes

@@ -169,7 +169,7 @@ const SECTIONS: &[(&str, Order, &[Change], Option<u32>)] = &[
 
 /// A block by its number, its size and its entry, which all others have as 10 and 0; where the directory begins; and the place of the
 /// image that gets the difference, or nothing where the relocations are refused.
-type Relocated = (&'static str, u32, u32, u32, usize, Option<usize>);
+type Relocated = (&'static str, u32, u32, u16, u32, Option<usize>);
 
 /// The blocks have one entry each, so that the size of block 6,553 stands across the 65,536th byte of the directory.
 const RELOCATIONS: &[Relocated] = &[
@@ -306,10 +306,10 @@ fn many(alloc: Global, order: Order, changes: &[Change]) -> Result<Vec<u8>, NoMe
 /// Writes blocks for the page 40000 one behind another, one of them with another size and another entry, and the directory.
 fn write_blocks(bytes: &mut [u8], case: &Relocated) {
     let (_, other, size, entry, base, _) = case;
-    write_at(bytes, 0xf0, &(*base as u32).to_le_bytes());
+    write_at(bytes, 0xf0, &base.to_le_bytes());
     write_at(bytes, 0xf4, &65_600u32.to_le_bytes());
     for k in 0..BLOCKS {
-        let at = base.wrapping_add((k as usize).wrapping_mul(10));
+        let at = (*base as usize).wrapping_add((k as usize).wrapping_mul(10));
         let (size, entry) = if k == *other {
             (*size, *entry)
         } else {
@@ -317,7 +317,7 @@ fn write_blocks(bytes: &mut [u8], case: &Relocated) {
         };
         write_at(bytes, at, &0x40000u32.to_le_bytes());
         write_at(bytes, at.wrapping_add(4), &size.to_le_bytes());
-        write_at(bytes, at.wrapping_add(8), &(entry as u16).to_le_bytes());
+        write_at(bytes, at.wrapping_add(8), &entry.to_le_bytes());
     }
 }
 
