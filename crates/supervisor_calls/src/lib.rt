@@ -1,0 +1,13 @@
+//! Floor: supervisor. It promises that an image touches memory and cells only as the verdict on each access says, that each denial and each
+//! cell write is recorded, and that an access which passes does just what its definition says. It never takes memory but where tables are
+//! made or grow, and never runs byte code.
+#![tactic(auto)]
+
+mod bus;
+mod bytes;
+mod domain;
+mod memory_access;
+mod tables;
+
+pub use domain::{Domain, enter};
+pub use tables::Tables;
