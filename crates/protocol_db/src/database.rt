@@ -96,7 +96,7 @@ impl ProtocolDb {
     }
 
     /// Installs an interface on a handle for a GUID, and answers the handle. Handle 0 asks for a new handle. It costs one
-    /// step a row.
+    /// step a row, and is the one call that takes memory.
     pub fn install(
         &mut self,
         handle: u64,
