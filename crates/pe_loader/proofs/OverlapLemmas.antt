@@ -1,5 +1,5 @@
 -- Sections that share bytes, found through windows.
-use Rattle.std.proofs.Common.{◌≡◌, inl, inr, ℕ, ◌+◌, ◌-◌, ◌≤◌, ◌<◌, min, max, Bool, true, false, cond, ◌&&◌, leb, ltb, List, length, get_or, sym, ap, ◌∙◌, subst, arith}
+use Rattle.std.proofs.Common.{◌≡◌, inl, inr, ℕ, ◌+◌, ◌-◌, ◌≤◌, ◌<◌, min, Bool, true, false, cond, ◌&&◌, leb, ltb, List, length, get_or, sym, ap, ◌∙◌, subst, arith}
 use Rattle.std.proofs.lemmas.Bool.{cond-true, cond-false, cases_Bool, cases_eq, cases_lt, and_parts, and_from, le-leb, lt-ltb, leb-true, ltb-true, false_from_ne_true}
 use Rattle.mm_base.specs.Range.{Has}
 use Rattle.mm_base.specs.declared.image.Part.{Part}
@@ -14,12 +14,6 @@ module _ (part : Part) (from places : ℕ) where
   abbrev pub here : Span
   here = span_of part.at part.length from places
 
-  pub span_order : here.begin ≤ here.end
-  span_order = omega arith
-
-  pub span_within : here.end ≤ places
-  span_within = omega arith
-
   has_inside : (d : ℕ) → d < places → Has (range_of part) (from + d) → (here.begin ≤ d) × (d < here.end)
   has_inside d h has =
       let low = has.from in
@@ -28,18 +22,6 @@ module _ (part : Part) (from places : ℕ) where
 
   inside_has : (d : ℕ) → here.begin ≤ d → d < here.end → Has (range_of part) (from + d)
   inside_has d low high = record { from = omega arith; to = omega arith }
-
--- ---- where a section has its first byte behind a window
-
-pub next_at_limit : (part : Part) (end limit : ℕ) → (part.length ≡ 0 → ⊥) → end < part.at + part.length
-    → (place : ℕ) → end ≤ place → place < max end part.at → Has (range_of part) place → ⊥
-next_at_limit part end limit some behind place low high has = let from = has.from in absurd (omega arith)
-
-pub none_behind : (part : Part) (end : ℕ) → part.at + part.length ≤ end → (place : ℕ) → end ≤ place → Has (range_of part) place → ⊥
-none_behind part end ended place low has = let to = has.to in absurd (omega arith)
-
-pub none_in_empty : (part : Part) → part.length ≡ 0 → (place : ℕ) → Has (range_of part) place → ⊥
-none_in_empty part none place has = let from = has.from in let to = has.to in absurd (omega arith)
 
 module _ (nth : ℕ → Part) where
   -- ---- marks

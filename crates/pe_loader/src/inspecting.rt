@@ -85,9 +85,10 @@ fn check_relocs(bytes: &[u8]) -> Result<(), PeFault>
     )
 }
 
-/// The image that bytes are, or the first fault that they have. Takes no memory. Linear in the bytes, the fixups and the sections where
-/// each section ends before the next of the table begins; else at most one pass over the sections for each 65,536 places of the image
-/// that a section reaches, and one for each 65,536 bytes of the relocation directory.
+/// The image that bytes are, or the first fault that they have. Takes no memory, and 65,536 bytes of stack where the table is out of order
+/// or the relocation directory large. Linear in the bytes, the fixups and the sections where each section ends before the next of the
+/// table begins; else at most one pass over the sections for each 65,536 places of the image that a section reaches, and one for each
+/// 65,536 bytes of the directory.
 pub fn inspect(bytes: &[u8]) -> Result<Image, PeFault>
     requires { length bytes.now ≤ 16777216 }
     ensures image { IfOk result (IsImageOf bytes.now) }

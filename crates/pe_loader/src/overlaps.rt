@@ -120,8 +120,9 @@ fn count_through(bytes: &[u8], layout: &Layout, count: u16, marks: &mut [bool]) 
     first
 }
 
-/// How many of the first `count` sections, from the front on, share no byte with earlier ones. The marks lie on the stack, so this is
-/// called only where the table isn't in order.
+/// How many of the first `count` sections, from the front on, share no byte with earlier ones. The marks lie on the stack, 65,536 bytes,
+/// so this is called only where the table isn't in order.
+#[inline(never)]
 pub(crate) fn count_apart(bytes: &[u8], layout: &Layout, count: u16) -> u16
     requires table { HasTable bytes.now layout.now }
     requires few { count ≤ layout.now.count }

@@ -145,7 +145,8 @@ impl Relocations {
         self.pass_through(bytes, &mut room)
     }
 
-    /// Whether the relocations of a large directory pass.
+    /// Whether the relocations of a large directory pass; the room lies on the stack.
+    #[inline(never)]
     fn large_pass(&self, bytes: &[u8]) -> bool
         requires laid_out { IsLaidOut bytes.now self.now.layout }
         requires fits { directory_fits self.now.layout.size self.now.directory ≡ true }

@@ -18,10 +18,21 @@ apply_all-requires c =
     let plain = front_shows_plain c.args.bytes.now c.lay_out.new.room c.args.image.now c.of_image.result c.front.result is.says c.of_image.ensures c.front.ensures long c.lay_out.ensures.shows in
     read_of c.args.bytes.now c.args.image.now c.requires.image.0 c.lay_out.new.room is plain
 
-pub returns : goal.returns
-returns c = λ fixups is.
+pub returns-clause-value : goal.returns-clause-value
+returns-clause-value c = λ fixups is.
     let says = c.requires.image.1.says in
     let long = c.lay_out.ensures.length ∙ c.requires.size ∙ size_of c.args.bytes.now c.args.image.now says in
     let plain = front_shows_plain c.args.bytes.now c.lay_out.new.room c.args.image.now c.of_image.result c.front.result says c.of_image.ensures c.front.ensures long c.lay_out.ensures.shows in
     applied_is_loaded c.args.bytes.now c.args.image.now c.lay_out.new.room c.apply_all.new.out c.args.base _ plain refl
     c.apply_all.ensures fixups is
+
+pub returns-clause-stands : goal.returns-clause-stands
+returns-clause-stands c =
+    let is = c.requires.image.1 in
+    let says = is.says in
+    let long = c.lay_out.ensures.length ∙ c.requires.size ∙ size_of c.args.bytes.now c.args.image.now says in
+    let plain = front_shows_plain c.args.bytes.now c.lay_out.new.room c.args.image.now c.of_image.result c.front.result says c.of_image.ensures c.front.ensures long c.lay_out.ensures.shows in
+    let made =
+    applied_is_loaded c.args.bytes.now c.args.image.now c.lay_out.new.room c.apply_all.new.out c.args.base _ plain refl
+    c.apply_all.ensures c.requires.image.0 is in
+    record { image = c.args.image.now; fixups = c.requires.image.0; of = is; is = made }
