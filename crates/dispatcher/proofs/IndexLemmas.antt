@@ -12,7 +12,7 @@ use Rattle.mm_base.specs.declared.guid.Guid.{Guid}
 use Rattle.depex.specs.Expressions.{Expression}
 use Rattle.dispatcher.specs.Drivers.{member_of, names, naming}
 use Rattle.dispatcher.specs.FamiliesInside.{AddsIf, Tells}
-use Rattle.dispatcher.specs.NameIndex.{items_of, listed, with_member}
+use Rattle.dispatcher.specs.IndexInside.{items_of, listed, with_member}
 use Rattle.dispatcher.specs.declared.driver.Driver.{Driver}
 use Rattle.dispatcher.specs.declared.driver.Member.{Member}
 use Rattle.dispatcher.specs.declared.name_index.NameIndex.{NameIndex}

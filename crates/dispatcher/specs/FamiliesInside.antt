@@ -6,7 +6,7 @@ use Rattle.std.specs.Option.{option_to_list}
 use Rattle.mm_base.specs.declared.guid.Guid.{Guid}
 use Rattle.depex.specs.Expressions.{Expression, Condition, Before, After}
 use Rattle.dispatcher.specs.Drivers.{is_true, member_of, naming}
-use Rattle.dispatcher.specs.NameIndex.{listed}
+use Rattle.dispatcher.specs.IndexInside.{listed}
 use Rattle.dispatcher.specs.Rounds.{family, family_of}
 use Rattle.dispatcher.specs.declared.driver.Driver.{Driver}
 use Rattle.dispatcher.specs.declared.driver.Member.{Member}

@@ -69,8 +69,8 @@ fn index_driver(
     before: &mut NameIndex,
     after: &mut NameIndex,
 ) -> Result<(), NoMemory>
-    ensures before { OnOk result (AddsIf named_before driver.now before.old before.new) }
-    ensures after { OnOk result (AddsIf named_after driver.now after.old after.new) }
+    ensures by_before { OnOk result (AddsIf named_before driver.now before.old before.new) }
+    ensures by_after { OnOk result (AddsIf named_after driver.now after.old after.new) }
 {
     if let Some(depex) = &driver.depex {
         if let Some(name) = depex.before() {

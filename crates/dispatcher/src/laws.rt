@@ -7,8 +7,8 @@ use crate::Starter;
 /// A driver whose BEFORE or AFTER names one of a round is in that round, whatever becomes of the starts: where a start fails, its
 /// AFTER drivers start all the same.
 pub fn scheduled_together<S: Starter>()
-    ensures before { AreTogether named_before S.installed_in S.started }
-    ensures after { AreTogether named_after S.installed_in S.started }
+    ensures by_before { AreTogether named_before S.installed_in S.started }
+    ensures by_after { AreTogether named_after S.installed_in S.started }
 {}
 
 /// A driver that is never scheduled has no condition that holds at the end, and names no driver that was scheduled.

@@ -1,7 +1,7 @@
 //! An ordered index from names to members.
 ghost use Rattle.std.specs.Prelude.{◌≡◌, [], ◌∷◌, ◌++◌, IfOk, OnOk};
 ghost use Rattle.mm_base.specs.declared.guid.Guid.{Guid as GuidValue};
-ghost use Rattle.dispatcher.specs.NameIndex.{listed, with_member};
+ghost use Rattle.dispatcher.specs.IndexInside.{listed, with_member};
 
 use crate::driver::Member;
 use mm_base::{Guid, NoMemory};

@@ -1,6 +1,6 @@
 use Rattle.std.proofs.Common.{ap, ◌∙◌, Vec}
 use Rattle.std.specs.declared.alloc.Global.{Global}
-use Rattle.dispatcher.specs.NameIndex.{items_of}
+use Rattle.dispatcher.specs.IndexInside.{items_of}
 use Rattle.dispatcher.specs.declared.driver.Member.{Member}
 use Rattle.dispatcher.proofs.name_index.NameIndex.add.Goals as goal
 use Rattle.dispatcher.proofs.name_index.NameIndex.add.Goals.{in-Some, in-None}
