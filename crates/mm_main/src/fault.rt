@@ -125,9 +125,7 @@ fn why_no_policy(kind: PolicyKind) -> &'static str {
         PolicyKind::Reserved => "the reserved field isn't 0",
         PolicyKind::Count => "the policy has more than 1024 rules",
         PolicyKind::Fuel => "the fuel is 0, or over 1000000",
-        PolicyKind::Kind => {
-            "the rule's kind is none of 1 memory, 2 I/O, 3 MSR and 4 save state"
-        }
+        PolicyKind::Kind => { "the rule's kind is none of 1 memory, 2 I/O, 3 MSR and 4 save state" }
         PolicyKind::Action => "the rule's action is neither 0 deny nor 1 allow",
         PolicyKind::Rights => {
             "the rule's rights are not those of its action: from 1 to 3 to allow, 0 to deny"
