@@ -35,9 +35,10 @@ impl<F: Frames> Memory<F> {
         Memory { frames }
     }
 
-    /// The number in the `n` bytes from `at`. It costs one or two reads of a page.
+    /// The number in the `n` bytes from `at`, for `n` of 1 to 8. It costs one or two reads of a page.
     pub fn read(&self, at: u32, n: u8) -> u64
-        requires width { IsWidth n }
+        requires low { 1 ≤ n }
+        requires high { n ≤ 8 }
         requires within { at + n ≤ length self.now.bytes }
         requires live { AreLive self.now.live at n }
         ensures value { result ≡ number_in self.now.bytes at n }

@@ -16,11 +16,11 @@ use Rattle.supervisor_calls.specs.Tables.{Site, TablesState}
 abbrev pub bus_of_image : Site → ℕ → ℕ → Meaning Acting
 bus_of_image site image trapped = record {
   fetches = λ acting at n.
-    answered (decided site image kinds.Memory at n rights.Execute trapped) (denial_of rights.Execute at n) (bytes_at acting.live at n ++ replicate (18 - n) 0) acting;
+      answered (decided site image kinds.Memory at n rights.Execute trapped) (denial_of rights.Execute at n) (bytes_at acting.live at n ++ replicate (18 - n) 0) acting;
   reads = λ acting at n.
-    answered (decided site image kinds.Memory at n rights.Read trapped) (denial_of rights.Read at n) (number_of (bytes_at acting.live at n)) acting;
+      answered (decided site image kinds.Memory at n rights.Read trapped) (denial_of rights.Read at n) (number_of (bytes_at acting.live at n)) acting;
   writes = λ acting at n value.
-    changed (with_quota at acting.records (decided site image kinds.Memory at n rights.Write trapped)) at n value acting;
+      changed (with_quota at acting.records (decided site image kinds.Memory at n rights.Write trapped)) at n value acting;
   targets = λ acting at. target_by (service_of site image at) (is_code site image trapped at);
   serves = λ acting number stack. (Status unsupported, acting);
 }

@@ -1,11 +1,8 @@
 //! A domain: what one invocation of one image may touch.
 ghost use Rattle.std.specs.Prelude.{◌≡◌, ◌<◌, [], length};
-ghost use Rattle.mm_base.specs.declared.access.Kind.TheVariants as kinds;
-ghost use Rattle.supervisor_calls.specs.Accesses.{decided, denial_of, with_denial};
-ghost use Rattle.supervisor_calls.specs.Domains.{trapped_of, acting_of};
 
 use crate::tables::Tables;
-use mm_base::{Denial, Frames, Kind, MOST_DENIALS, Records, Right, Saved, Verdict, Why};
+use mm_base::{Frames, Records, Saved};
 use std::marker::Model;
 
 /// What one invocation of one image may touch, with its records. It owns the tables for that time.
@@ -23,6 +20,10 @@ impl<F: Frames> Model for Domain<F> {
     ghost Value = { DomainState };
 
     ghost view = { λ d. record { tables = d.tables; image = d.image; saved = d.saved; records = d.records } };
+
+    ghost use Rattle.std.specs.Prelude.{◌<◌, length};
+
+    ghost invariant = { λ d. d.image < length d.tables.site.images };
 }
 
 impl<F: Frames> Domain<F> {
@@ -46,7 +47,9 @@ impl<F: Frames> Domain<F> {
         ensures records { result.1 ≡ self.records }
     {
         let Domain {
-            tables, records, ..
+            tables,
+            records,
+            ..
         } = self;
         (tables, records)
     }

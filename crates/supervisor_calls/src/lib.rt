@@ -6,6 +6,7 @@
 mod bus;
 mod bytes;
 mod domain;
+mod memory_access;
 mod tables;
 
 pub use domain::Domain;

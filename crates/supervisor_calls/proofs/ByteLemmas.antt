@@ -1,0 +1,75 @@
+-- Words of memory, one behind the other, as the front that a fetch answers.
+use Rattle.std.proofs.Common.{◌≡◌, ℕ, ◌+◌, ◌-◌, ◌≤◌, ◌<◌, List, [], ◌++◌, length, take, drop, replicate, All, refl, sym, ap, ◌∙◌, append_assoc, arith}
+use Rattle.std.proofs.Math.Seq.{take-add}
+use Rattle.std.proofs.lemmas.List.{length-take-le, length-drop, take-append-le, take-append-add, append-nil, take-replicate, replicate-append-replicate}
+use Rattle.std.proofs.lemmas.List.Elements.{All-take, All-drop}
+use Rattle.mm_base.specs.Numbers.{number_of, number_in, bytes_of_word}
+use Rattle.mm_base.proofs.NumberLemmas.{bytes_of_word-filled}
+
+module _ (bytes : List ℕ) (small : All (λ byte. byte < 256) bytes) where
+  -- the word of n bytes is these bytes, and zeros
+  pub word_is : (at n : ℕ) → n ≤ 8 → at + n ≤ length bytes
+      → bytes_of_word (number_in bytes at n) ≡ take n (drop at bytes) ++ replicate (8 - n) 0
+  word_is at n few within =
+      let long : length (take n (drop at bytes)) ≡ n = length-take-le n (drop at bytes) (omega (arith, within, length-drop at bytes)) in
+      bytes_of_word-filled (take n (drop at bytes)) (omega (arith, long, few))
+      (All-take (λ byte. byte < 256) n (drop at bytes) (All-drop (λ byte. byte < 256) at bytes small))
+      ∙ ap (λ (k : ℕ). take n (drop at bytes) ++ replicate (8 - k) 0) long
+
+-- ---- what a fetch answers, by how many words it has
+
+abbrev zeros : ℕ → List ℕ
+zeros n = replicate n 0
+
+module _ (code : List ℕ) (n : ℕ) where
+  -- one word
+  pub one_word : n ≤ 8 → (take n code ++ zeros (8 - n)) ++ zeros 8 ++ zeros 2 ≡ take n code ++ zeros (18 - n)
+  one_word few =
+      append_assoc (take n code ++ zeros (8 - n)) (zeros 8) (zeros 2) ∙ append_assoc (take n code) (zeros (8 - n)) (zeros 10)
+      ∙ ap (λ (z : List ℕ). take n code ++ z) (replicate-append-replicate (8 - n) 10 0 ∙ ap zeros (omega (arith, few)))
+
+  -- two words
+  module _ (more : 8 < n) (few : n ≤ 16) where
+    second : List ℕ
+    second = take (n - 8) (drop 8 code)
+
+    rest : List ℕ
+    rest = zeros (8 - (n - 8))
+
+    pub two_words : (take 8 code ++ zeros 0) ++ (take (n - 8) (drop 8 code) ++ zeros (8 - (n - 8))) ++ zeros 2 ≡ take n code ++ zeros (18 - n)
+    unfolding second rest
+    two_words =
+        ap (λ (x : List ℕ). x ++ (second ++ rest) ++ zeros 2) (append-nil (take 8 code))
+        ∙ append_assoc (take 8 code) (second ++ rest) (zeros 2)
+        ∙ ap (λ (x : List ℕ). take 8 code ++ x) (append_assoc second rest (zeros 2))
+        ∙ sym (append_assoc (take 8 code) second (rest ++ zeros 2))
+        ∙ ap (λ (x : List ℕ). x ++ (rest ++ zeros 2)) (sym (take-add 8 (n - 8) code))
+        ∙ ap (λ (k : ℕ). take k code ++ (rest ++ zeros 2)) (omega (arith, more))
+        ∙ ap (λ (z : List ℕ). take n code ++ z) (replicate-append-replicate (8 - (n - 8)) 2 0 ∙ ap zeros (omega (arith, more, few)))
+
+  -- three words
+  module _ (more : 16 < n) (few : n ≤ 18) (long : n ≤ length code) where
+    third : List ℕ
+    third = take (n - 16) (drop 16 code)
+
+    third_long : length third ≡ n - 16
+    unfolding third
+    third_long = length-take-le (n - 16) (drop 16 code) (omega (arith, more, long, length-drop 16 code))
+
+    two_of_it : take 2 (third ++ zeros (8 - (n - 16))) ≡ third ++ zeros (18 - n)
+    two_of_it =
+        ap (λ (k : ℕ). take k (third ++ zeros (8 - (n - 16)))) (omega (arith, third_long, more, few))
+        ∙ take-append-add third (zeros (8 - (n - 16))) (18 - n)
+        ∙ ap (λ (z : List ℕ). third ++ z) (take-replicate (18 - n) (8 - (n - 16)) 0 (omega (arith, more, few)))
+
+    pub three_words : (take 8 code ++ zeros 0) ++ (take 8 (drop 8 code) ++ zeros 0) ++ take 2 (take (n - 16) (drop 16 code) ++ zeros (8 - (n - 16)))
+        ≡ take n code ++ zeros (18 - n)
+    unfolding third
+    three_words =
+        ap (λ (x : List ℕ). x ++ (take 8 (drop 8 code) ++ zeros 0) ++ take 2 (third ++ zeros (8 - (n - 16)))) (append-nil (take 8 code))
+        ∙ ap (λ (x : List ℕ). take 8 code ++ x ++ take 2 (third ++ zeros (8 - (n - 16)))) (append-nil (take 8 (drop 8 code)))
+        ∙ ap (λ (x : List ℕ). x ++ take 2 (third ++ zeros (8 - (n - 16)))) (sym (take-add 8 8 code))
+        ∙ ap (λ (x : List ℕ). take 16 code ++ x) two_of_it
+        ∙ sym (append_assoc (take 16 code) third (zeros (18 - n)))
+        ∙ ap (λ (x : List ℕ). x ++ zeros (18 - n)) (sym (take-add 16 (n - 16) code))
+        ∙ ap (λ (k : ℕ). take k code ++ zeros (18 - n)) (omega (arith, more))

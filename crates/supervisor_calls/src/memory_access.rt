@@ -1,0 +1,91 @@
+//! Accesses of images to memory and to the device window, which a verdict has let pass.
+ghost use Rattle.std.specs.Prelude.{◌≡◌, ◌⊎◌, ◌<◌, ◌≤◌, ◌-◌, ◌++◌, true, Some, length, replicate, IfSome};
+ghost use Rattle.mm_base.specs.Bus.{IsAccessWidth};
+ghost use Rattle.mm_base.specs.Cells.{is_device_byte};
+ghost use Rattle.mm_base.specs.Numbers.{number_of, low_bytes};
+ghost use Rattle.mm_base.specs.declared.access.Kind.TheVariants as kinds;
+ghost use Rattle.mm_base.specs.declared.access.Right.TheVariants as rights;
+ghost use Rattle.secure_policy.specs.Laws.{passes};
+ghost use Rattle.supervisor_calls.specs.Accesses.{decided, bytes_at, with_bytes, service_of};
+
+use crate::bytes::code_from;
+use crate::tables::Tables;
+use mm_base::{
+    DEVICE_WINDOW, Frames, Kind, MMRAM, MOST_FETCHED, Region, Right, SERVICES, Verdict,
+    service_entry,
+};
+
+/// Whether an address is one of the device window.
+#[inline(always)]
+pub(crate) fn is_device(at: u64) -> bool
+    ensures { result ≡ is_device_byte at }
+{
+    DEVICE_WINDOW.base <= at && at < DEVICE_WINDOW.base + DEVICE_WINDOW.length
+}
+
+impl<F: Frames> Tables<F> {
+    /// The verdict on an access of an image to memory, by the policy and the image's own ranges.
+    #[inline(always)]
+    pub(crate) fn decide(&self, image: u32, at: u64, n: u8, right: Right, trapped: u64) -> Verdict
+        ensures { result ≡ decided self.now.site image kinds.Memory at n right trapped }
+    {
+        self.guard
+            .decide(&self.images, image, Kind::Memory, at, n, right, trapped)
+    }
+
+    /// The bytes of an instruction that an image may execute, in front of zeros.
+    #[inline(always)]
+    pub(crate) fn code(&self, image: u32, at: u64, n: u8, trapped: u64) -> [u8; MOST_FETCHED]
+        requires low { 1 ≤ n }
+        requires high { n ≤ 18 }
+        requires passes { passes (decided self.now.site image kinds.Memory at n rights.Execute trapped) ≡ true }
+        ensures { result ≡ bytes_at self.now.live at n ++ replicate (18 - n) 0 }
+    {
+        self.keeps();
+        code_from(&self.memory, (at - MMRAM.base) as u32, n)
+    }
+
+    /// The number in bytes that an image may read.
+    #[inline(always)]
+    pub(crate) fn number(&self, image: u32, at: u64, n: u8, trapped: u64) -> u64
+        requires width { IsAccessWidth n }
+        requires passes { passes (decided self.now.site image kinds.Memory at n rights.Read trapped) ≡ true }
+        ensures { result ≡ number_of (bytes_at self.now.live at n) }
+    {
+        self.keeps();
+        if is_device(at) {
+            self.platform.dev_read(at, n)
+        } else {
+            self.memory.read((at - MMRAM.base) as u32, n)
+        }
+    }
+
+    /// Writes the low bytes of a number where an image may write.
+    #[inline(always)]
+    pub(crate) fn put(&mut self, image: u32, at: u64, n: u8, value: u64, trapped: u64)
+        requires width { IsAccessWidth n }
+        requires passes { passes (decided self.old.site image kinds.Memory at n rights.Write trapped) ≡ true }
+        ensures { self.new ≡ record self.old { live = with_bytes at (low_bytes n value) self.old.live } }
+    {
+        self.keeps();
+        if is_device(at) {
+            self.platform.dev_write(at, n, value);
+        } else {
+            self.memory.write((at - MMRAM.base) as u32, n, value);
+        }
+    }
+
+    /// The number of the service of an image whose entry stands at an address. It costs one step a service.
+    pub(crate) fn service_at(&self, image: u32, at: u64) -> Option<u8>
+        requires { image < length self.now.site.images }
+        ensures value { result ≡ service_of self.now.site image at }
+        ensures numbered { IfSome result (λ number. number < 20) }
+    {
+        let region = Region {
+            base: self.images.base(image),
+            pages: self.images.pages(image),
+        };
+        let page = region.service_page().base;
+        (0..SERVICES).find(|number| service_entry(page, *number) == at)
+    }
+}
