@@ -1,9 +1,9 @@
 -- Words of memory, one behind the other, as the front that a fetch answers.
 use Rattle.std.proofs.Common.{◌≡◌, ℕ, ◌+◌, ◌-◌, ◌≤◌, ◌<◌, List, [], ◌++◌, length, take, drop, replicate, All, refl, sym, ap, ◌∙◌, append_assoc, arith}
-use Rattle.std.proofs.Math.Seq.{take-add}
-use Rattle.std.proofs.lemmas.List.{length-take-le, length-drop, take-append-le, take-append-add, append-nil, take-replicate, replicate-append-replicate}
+use Rattle.std.proofs.Math.Seq.{take-add, drop-append-add}
+use Rattle.std.proofs.lemmas.List.{take_at, drop-drop, length-append, length-take-le, length-drop, take-append-le, take-append-add, append-nil, take-replicate, replicate-append-replicate}
 use Rattle.std.proofs.lemmas.List.Elements.{All-take, All-drop}
-use Rattle.mm_base.specs.Numbers.{number_of, number_in, bytes_of_word}
+use Rattle.mm_base.specs.Numbers.{number_of, number_in, bytes_of_word, overwritten}
 use Rattle.mm_base.proofs.NumberLemmas.{bytes_of_word-filled}
 
 module _ (bytes : List ℕ) (small : All (λ byte. byte < 256) bytes) where
@@ -15,6 +15,28 @@ module _ (bytes : List ℕ) (small : All (λ byte. byte < 256) bytes) where
       bytes_of_word-filled (take n (drop at bytes)) (omega (arith, long, few))
       (All-take (λ byte. byte < 256) n (drop at bytes) (All-drop (λ byte. byte < 256) at bytes small))
       ∙ ap (λ (k : ℕ). take n (drop at bytes) ++ replicate (8 - k) 0) long
+
+-- ---- three pieces over zeros
+
+over_at : (front behind piece : List ℕ) (at : ℕ) → length front ≡ at → overwritten (front ++ behind) at piece ≡ (front ++ piece) ++ drop (length piece) behind
+over_at front behind piece at long =
+    ap (λ (f : List ℕ). f ++ piece ++ drop (at + length piece) (front ++ behind)) (take_at front behind at long)
+    ∙ ap (λ (k : ℕ). (front ++ piece) ++ drop (k + length piece) (front ++ behind)) (sym long)
+    ∙ ap (λ (b : List ℕ). (front ++ piece) ++ b) (drop-append-add front behind (length piece))
+
+pub joined_is : (first second third one two three : List ℕ) → length first ≡ 8 → length second ≡ 8 → length third ≡ 2
+    → one ≡ overwritten (replicate 18 0) 0 first → two ≡ overwritten one 8 second → three ≡ overwritten two 16 third
+    → three ≡ first ++ second ++ third
+joined_is first second third one two three long-first long-second long-third a b c =
+    let e1 : one ≡ first ++ replicate 10 0 =
+    a ∙ over_at [] (replicate 18 0) first 0 refl ∙ ap (λ (k : ℕ). first ++ drop k (replicate 18 0)) long-first in
+    let e2 : two ≡ (first ++ second) ++ replicate 2 0 =
+    b ∙ ap (λ (o : List ℕ). overwritten o 8 second) e1 ∙ over_at first (replicate 10 0) second 8 long-first
+    ∙ ap (λ (k : ℕ). (first ++ second) ++ drop k (replicate 10 0)) long-second in
+    let both : length (first ++ second) ≡ 16 = omega (arith, long-first, long-second, length-append first second) in
+    c ∙ ap (λ (t : List ℕ). overwritten t 16 third) e2 ∙ over_at (first ++ second) (replicate 2 0) third 16 both
+    ∙ ap (λ (k : ℕ). ((first ++ second) ++ third) ++ drop k (replicate 2 0)) long-third
+    ∙ append-nil ((first ++ second) ++ third)
 
 -- ---- what a fetch answers, by how many words it has
 
@@ -73,3 +95,7 @@ module _ (code : List ℕ) (n : ℕ) where
         ∙ sym (append_assoc (take 16 code) third (zeros (18 - n)))
         ∙ ap (λ (x : List ℕ). x ++ zeros (18 - n)) (sym (take-add 16 (n - 16) code))
         ∙ ap (λ (k : ℕ). take k code ++ zeros (18 - n)) (omega (arith, more))
+
+-- a place further on
+pub further : (bytes : List ℕ) (at more n : ℕ) → take n (drop (at + more) bytes) ≡ take n (drop more (drop at bytes))
+further bytes at more n = ap (take n) (sym (drop-drop more at bytes))

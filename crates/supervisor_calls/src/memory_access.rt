@@ -1,12 +1,12 @@
 //! Accesses of images to memory and to the device window, which a verdict has let pass.
-ghost use Rattle.std.specs.Prelude.{◌≡◌, ◌⊎◌, ◌<◌, ◌≤◌, ◌-◌, ◌++◌, true, Some, length, replicate, IfSome};
+ghost use Rattle.std.specs.Prelude.{◌≡◌, ◌⊎◌, ◌<◌, ◌≤◌, ◌-◌, ◌+◌, ◌^◌, ◌++◌, true, Some, length, replicate, IfSome};
 ghost use Rattle.mm_base.specs.Bus.{IsAccessWidth};
 ghost use Rattle.mm_base.specs.Cells.{is_device_byte};
 ghost use Rattle.mm_base.specs.Numbers.{number_of, low_bytes};
 ghost use Rattle.mm_base.specs.declared.access.Kind.TheVariants as kinds;
 ghost use Rattle.mm_base.specs.declared.access.Right.TheVariants as rights;
 ghost use Rattle.secure_policy.specs.Laws.{passes};
-ghost use Rattle.supervisor_calls.specs.Accesses.{decided, bytes_at, with_bytes, service_of};
+ghost use Rattle.supervisor_calls.specs.Accesses.{decided, bytes_at, with_bytes, service_at as service_on, service_of};
 
 use crate::bytes::code_from;
 use crate::tables::Tables;
@@ -21,6 +21,20 @@ pub(crate) fn is_device(at: u64) -> bool
     ensures { result ≡ is_device_byte at }
 {
     DEVICE_WINDOW.base <= at && at < DEVICE_WINDOW.base + DEVICE_WINDOW.length
+}
+
+/// The number of the service whose entry stands at an address of this service page.
+fn service_in(page: u64, at: u64) -> Option<u8>
+    requires { page + 4096 ≤ 2 ^ 64 }
+    ensures value { result ≡ service_on page at }
+    ensures numbered { IfSome result (λ number. number < 20) }
+{
+    for number in 0..SERVICES {
+        if service_entry(page, number) == at {
+            return Some(number);
+        }
+    }
+    None
 }
 
 impl<F: Frames> Tables<F> {
@@ -85,7 +99,6 @@ impl<F: Frames> Tables<F> {
             base: self.images.base(image),
             pages: self.images.pages(image),
         };
-        let page = region.service_page().base;
-        (0..SERVICES).find(|number| service_entry(page, *number) == at)
+        service_in(region.service_page().base, at)
     }
 }

@@ -1,6 +1,6 @@
 //! The tables that a core keeps for its images.
 ghost use Rattle.std.specs.Prelude.{◌≡◌, ◌+◌, ◌*◌, ◌-◌, ◌<◌, ◌≤◌, false, true, [], length, All, IfOk};
-ghost use Rattle.platform_model.specs.Cells.{PlatformState};
+ghost use Rattle.image_table.specs.HomeRanges.{IsPlaced};
 ghost use Rattle.supervisor_calls.specs.Tables.{IsTables};
 
 use image_table::ImageTable;
@@ -49,7 +49,7 @@ impl<F: Frames> Model for Tables<F> {
     }) };
 }
 
-impl<F: Frames> Tables<F> {
+impl<F: Frames + Drop> Tables<F> {
     /// Tables without images and handlers, over memory of 8,192 pages. It takes the memory of the tables.
     pub fn new(
         alloc: Global,
@@ -80,11 +80,14 @@ impl<F: Frames> Tables<F> {
             locked: false,
         })
     }
+}
 
-    /// What holds of all tables.
+impl<F: Frames> Tables<F> {
+    /// What holds of all tables, and of their images.
     pub fn keeps(&self)
-        ensures { IsTables self.now }
+        ensures tables { IsTables self.now }
+        ensures placed { All IsPlaced self.now.site.images }
     {
-        let _ = &self.locked;
+        let _ = self.images.len();
     }
 }
