@@ -1,7 +1,7 @@
 -- Words of memory, one behind the other, as the front that a fetch answers.
 use Rattle.std.proofs.Common.{◌≡◌, ℕ, ◌+◌, ◌-◌, ◌≤◌, ◌<◌, List, [], ◌++◌, length, take, drop, replicate, All, refl, sym, ap, ◌∙◌, append_assoc, arith}
-use Rattle.std.proofs.Math.Seq.{take-add, drop-append-add}
-use Rattle.std.proofs.lemmas.List.{take_at, drop-drop, length-append, length-take-le, length-drop, take-append-le, take-append-add, append-nil, take-replicate, replicate-append-replicate}
+use Rattle.std.proofs.Math.Seq.{take-add, take-append-add, drop-append-add}
+use Rattle.std.proofs.lemmas.List.{take_at, drop-drop, length-append, length-take-le, length-drop, take-append-le, append-nil, take-replicate, replicate-append-replicate}
 use Rattle.std.proofs.lemmas.List.Elements.{All-take, All-drop}
 use Rattle.mm_base.specs.Numbers.{number_of, number_in, bytes_of_word, overwritten}
 use Rattle.mm_base.proofs.NumberLemmas.{bytes_of_word-filled}
@@ -80,7 +80,8 @@ module _ (code : List ℕ) (n : ℕ) where
 
     two_of_it : take 2 (third ++ zeros (8 - (n - 16))) ≡ third ++ zeros (18 - n)
     two_of_it =
-        ap (λ (k : ℕ). take k (third ++ zeros (8 - (n - 16)))) (omega (arith, third_long, more, few))
+        let two : 2 ≡ length third + (18 - n) = omega (arith, third_long, more, few) in
+        ap (λ (k : ℕ). take k (third ++ zeros (8 - (n - 16)))) two
         ∙ take-append-add third (zeros (8 - (n - 16))) (18 - n)
         ∙ ap (λ (z : List ℕ). third ++ z) (take-replicate (18 - n) (8 - (n - 16)) 0 (omega (arith, more, few)))
 

@@ -40,8 +40,11 @@ trapped_of domain = if domain.tables.locked then slice_index domain.saved.0 18 e
 abbrev pub acting_of : DomainState → Acting
 acting_of domain = record { live = domain.tables.live; records = domain.records }
 
+abbrev pub acted : DomainState → Acting → DomainState
+acted domain acting = record domain { tables = record domain.tables { live = acting.live }; records = acting.records }
+
 abbrev pub with_acting : {A : Type 0} → DomainState → A × Acting → A × DomainState
-with_acting domain told = (told.0, record domain { tables = record domain.tables { live = told.1.live }; records = told.1.records })
+with_acting domain told = (told.0, acted domain told.1)
 
 abbrev pub bus_of_domain : DomainState → Meaning Acting
 bus_of_domain domain = bus_of_image domain.tables.site domain.image (trapped_of domain)

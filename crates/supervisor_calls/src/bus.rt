@@ -7,7 +7,7 @@ ghost use Rattle.mm_base.specs.Cells.{is_device_byte};
 ghost use Rattle.mm_base.specs.declared.access.Kind.TheVariants as kinds;
 ghost use Rattle.secure_policy.specs.Laws.{passes};
 ghost use Rattle.supervisor_calls.specs.Accesses.{decided, denial_of, has_used_quota, is_code, with_bytes, with_denial, with_quota, with_cell_write};
-ghost use Rattle.supervisor_calls.specs.Domains.{trapped_of, acting_of, with_acting};
+ghost use Rattle.supervisor_calls.specs.Domains.{trapped_of, acting_of, acted};
 
 use crate::domain::Domain;
 use crate::memory_access::is_device;
@@ -37,7 +37,7 @@ impl<F: Frames> Domain<F> {
     fn trapped(&self) -> u64
         ensures { result ≡ trapped_of self.now }
     {
-        if self.tables.locked {
+        if self.tables.is_locked() {
             self.saved.0[TRAPPED]
         } else {
             0
@@ -47,7 +47,7 @@ impl<F: Frames> Domain<F> {
     /// A denial, which is recorded where it is one of the first 8.
     fn denied(&mut self, right: Right, at: u64, n: u8, why: Why) -> Denial
         ensures value { result ≡ denial_of right at n why }
-        ensures after { self.new ≡ (with_acting self.old (result, with_denial (denial_of right at n why) (acting_of self.old))).1 }
+        ensures after { self.new ≡ acted self.old (with_denial (denial_of right at n why) (acting_of self.old)) }
     {
         let denial = Denial {
             kind: Kind::Memory,
@@ -83,13 +83,10 @@ impl<F: Frames> Domain<F> {
         requires width { IsAccessWidth n }
         requires passes { passes (decided self.old.tables.site self.old.image kinds.Memory at n rights.Write trapped) ≡ true }
         requires room { (is_device_byte at && has_used_quota self.old.records) ≡ false }
-        ensures { self.new ≡ (with_acting self.old (
-          tt,
-          record {
-            live = with_bytes at (low_bytes n value) self.old.tables.live;
-            records = with_cell_write at n (low_bytes n value) self.old.records;
-          },
-        )).1 }
+        ensures { self.new ≡ acted self.old (record {
+          live = with_bytes at (low_bytes n value) self.old.tables.live;
+          records = with_cell_write at n (low_bytes n value) self.old.records;
+        }) }
     {
         self.tables.put(self.image, at, n, value, trapped);
         if is_device(at) {

@@ -95,6 +95,7 @@ impl<F: Frames> Tables<F> {
         ensures value { result ≡ service_of self.now.site image at }
         ensures numbered { IfSome result (λ number. number < 20) }
     {
+        self.keeps();
         let region = Region {
             base: self.images.base(image),
             pages: self.images.pages(image),

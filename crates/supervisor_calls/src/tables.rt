@@ -83,6 +83,14 @@ impl<F: Frames + Drop> Tables<F> {
 }
 
 impl<F: Frames> Tables<F> {
+    /// Whether handlers may be registered no more.
+    #[inline(always)]
+    pub fn is_locked(&self) -> bool
+        ensures { result ≡ self.now.locked }
+    {
+        self.locked
+    }
+
     /// What holds of all tables, and of their images.
     pub fn keeps(&self)
         ensures tables { IsTables self.now }

@@ -1,4 +1,4 @@
-use Rattle.std.proofs.Common.{List, ℕ, ◌++◌, ◌+◌, ◌-◌, ◌∙◌, drop, take, ap, replicate, arith}
+use Rattle.std.proofs.Common.{List, ℕ, ◌++◌, ◌+◌, ◌-◌, ◌∙◌, drop, take, ap, replicate, length-drop, arith}
 use Rattle.supervisor_calls.proofs.ByteLemmas.{one_word, two_words, three_words, further}
 use Rattle.supervisor_calls.proofs.bytes.code_from.Goals as goal
 
@@ -17,3 +17,16 @@ returns-then-n-le16 g c =
     ∙ ap (λ (w : List ℕ). (take 8 code ++ replicate 0 0) ++ w ++ replicate 2 0) c.word_from-second.ensures
     ∙ ap (λ (w : List ℕ). (take 8 code ++ replicate 0 0) ++ (w ++ replicate (8 - (n - 8)) 0) ++ replicate 2 0) (further bytes c.args.at 8 (n - 8))
     ∙ two_words code n (omega (arith, c.if-n-le8.false)) c.if-n-le16.true
+
+pub returns : goal.returns
+returns g c =
+    let bytes = c.args.memory.now.bytes in
+    let code = drop c.args.at bytes in
+    let n = c.args.n in
+    c.joined-2.ensures
+    ∙ ap (λ (w : List ℕ). w ++ c.word_from-second-2.result ++ take 2 c.word_from-third.result) c.word_from-first-2.ensures
+    ∙ ap (λ (w : List ℕ). (take 8 code ++ replicate 0 0) ++ w ++ take 2 c.word_from-third.result) c.word_from-second-2.ensures
+    ∙ ap (λ (w : List ℕ). (take 8 code ++ replicate 0 0) ++ (w ++ replicate 0 0) ++ take 2 c.word_from-third.result) (further bytes c.args.at 8 8)
+    ∙ ap (λ (w : List ℕ). (take 8 code ++ replicate 0 0) ++ (take 8 (drop 8 code) ++ replicate 0 0) ++ take 2 w) c.word_from-third.ensures
+    ∙ ap (λ (w : List ℕ). (take 8 code ++ replicate 0 0) ++ (take 8 (drop 8 code) ++ replicate 0 0) ++ take 2 (w ++ replicate (8 - (n - 16)) 0)) (further bytes c.args.at 16 (n - 16))
+    ∙ three_words code n (omega (arith, c.if-n-le16.false)) c.requires.high (omega (arith, c.requires.within, length-drop c.args.at bytes))
