@@ -1,6 +1,6 @@
 -- What contracts see of the tables that a core keeps for its images: what stays from lock on, which verdicts rest on, and what a step
 -- may change.
-use Rattle.std.specs.Prelude.{◌≡◌, ℕ, ◌+◌, ◌*◌, ◌-◌, ◌<◌, Bool, List, length, All}
+use Rattle.std.specs.Prelude.{◌≡◌, ℕ, ◌+◌, ◌*◌, ◌-◌, ◌<◌, Bool, false, if◌then◌else◌, nat_lt, List, [], ◌∷◌, ◌++◌, length, replicate, All, Option, Some, None}
 use Rattle.image_table.specs.declared.placed_image.PlacedImage.{PlacedImage}
 use Rattle.mm_base.specs.declared.policy.Policy.{Policy}
 use Rattle.mm_memory.specs.Flat.{AreLive}
@@ -28,6 +28,18 @@ pub record TablesState : Type 0 where
   pub registry : RegistryState
   pub locked : Bool
   pub pages : List Bool
+
+-- the number that the next image gets; none where there are 32
+abbrev pub number_for : List PlacedImage → Option ℕ
+number_for images = if nat_lt (length images) 32 then Some (length images) else None
+
+-- the tables with one more image, whose pool is empty and of whose reserve no page is taken; the same without a number for it
+abbrev pub with_image : Option ℕ → PlacedImage → TablesState → TablesState
+with_image None image tables = tables
+with_image (Some number) image tables = record tables {
+  site = record tables.site { images = tables.site.images ++ image ∷ [] };
+  live = record tables.live { pools = tables.live.pools ++ [] ∷ []; reserves = tables.live.reserves ++ replicate 16 false ∷ [] };
+}
 
 -- The pages of an image's region are live.
 abbrev pub IsRegionLive : List Bool → PlacedImage → Type 0

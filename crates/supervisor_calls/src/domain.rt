@@ -26,21 +26,21 @@ impl<F: Frames> Model for Domain<F> {
     ghost invariant = { λ d. d.image < length d.tables.site.images };
 }
 
-impl<F: Frames> Domain<F> {
-    /// The domain of an invocation of an image, for which these registers were saved. It takes no memory and copies no page.
-    pub fn enter(tables: Tables<F>, image: u32, saved: Saved, records: Records) -> Domain<F>
-        requires admitted { image < length tables.site.images }
-        requires blank { records ≡ record { denials = []; writes = [] } }
-        ensures { result ≡ record { tables = tables; image = image; saved = saved; records = records } }
-    {
-        Domain {
-            tables,
-            image,
-            saved,
-            records,
-        }
+/// The domain of an invocation of an image, for which these registers were saved. It takes no memory and copies no page.
+pub fn enter<F: Frames>(tables: Tables<F>, image: u32, saved: Saved, records: Records) -> Domain<F>
+    requires admitted { image < length tables.site.images }
+    requires blank { records ≡ record { denials = []; writes = [] } }
+    ensures { result ≡ record { tables = tables; image = image; saved = saved; records = records } }
+{
+    Domain {
+        tables,
+        image,
+        saved,
+        records,
     }
+}
 
+impl<F: Frames> Domain<F> {
     /// The tables and the records, as they are then. It takes no memory and copies no page.
     pub fn leave(self) -> (Tables<F>, Records)
         ensures tables { result.0 ≡ self.tables }

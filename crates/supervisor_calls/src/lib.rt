@@ -9,5 +9,5 @@ mod domain;
 mod memory_access;
 mod tables;
 
-pub use domain::Domain;
+pub use domain::{Domain, enter};
 pub use tables::Tables;

@@ -1,10 +1,15 @@
 //! The tables that a core keeps for its images.
-ghost use Rattle.std.specs.Prelude.{◌≡◌, ◌+◌, ◌*◌, ◌-◌, ◌<◌, ◌≤◌, false, true, [], length, All, IfOk};
+ghost use Rattle.std.specs.Prelude.{◌≡◌, ◌+◌, ◌*◌, ◌-◌, ◌<◌, ◌≤◌, false, true, [], length, All, IfOk, OnErr};
 ghost use Rattle.image_table.specs.HomeRanges.{IsPlaced};
-ghost use Rattle.supervisor_calls.specs.Tables.{IsTables};
+ghost use Rattle.image_table.specs.ImageTable.{placed, region_at};
+ghost use Rattle.image_table.specs.Sections.{AreApart, LieBetween};
+ghost use Rattle.mm_base.specs.Platform.{mmram};
+ghost use Rattle.mm_base.specs.Range.{encloses};
+ghost use Rattle.mm_base.specs.Regions.{region_of};
+ghost use Rattle.supervisor_calls.specs.Tables.{IsTables, IsRegionLive, number_for, with_image};
 
-use image_table::ImageTable;
-use mm_base::{Frames, List, NoMemory};
+use image_table::{ImageTable, MOST_IMAGES};
+use mm_base::{Frames, Guid, Image, List, NoMemory, Part, RESERVE_PAGES, Room};
 use mm_memory::Memory;
 use mmi_registry::Registry;
 use page_runs::RunMap;
@@ -19,8 +24,8 @@ use std::marker::Model;
 pub struct Tables<F: Frames> {
     pub(crate) memory: Memory<F>,
     pub(crate) images: ImageTable,
-    pub(crate) pools: List<PoolTree>,
-    pub(crate) reserves: List<RunMap>,
+    pub(crate) pools: Room<PoolTree>,
+    pub(crate) reserves: Room<RunMap>,
     pub(crate) guard: Guard,
     pub(crate) platform: Platform,
     pub(crate) registry: Registry,
@@ -28,25 +33,30 @@ pub struct Tables<F: Frames> {
 }
 
 impl<F: Frames> Model for Tables<F> {
+    ghost use Rattle.std.specs.Prelude.{◌≡◌};
     ghost use Rattle.supervisor_calls.specs.Tables.{TablesState, IsTables};
 
     ghost Value = { TablesState };
 
     ghost view = { λ t. record {
       site = record { images = t.images; policy = t.guard };
-      live = record { memory = t.memory.bytes; platform = t.platform; pools = t.pools; reserves = t.reserves };
+      live = record { memory = t.memory.bytes; platform = t.platform; pools = t.pools.items; reserves = t.reserves.items };
       registry = t.registry;
       locked = t.locked;
       pages = t.memory.live;
     } };
 
-    ghost invariant = { λ t. IsTables (record {
-      site = record { images = t.images; policy = t.guard };
-      live = record { memory = t.memory.bytes; platform = t.platform; pools = t.pools; reserves = t.reserves };
-      registry = t.registry;
-      locked = t.locked;
-      pages = t.memory.live;
-    }) };
+    ghost invariant = { λ t. record {
+      pools : t.pools.room ≡ 32;
+      reserves : t.reserves.room ≡ 32;
+      keeps : IsTables (record {
+        site = record { images = t.images; policy = t.guard };
+        live = record { memory = t.memory.bytes; platform = t.platform; pools = t.pools.items; reserves = t.reserves.items };
+        registry = t.registry;
+        locked = t.locked;
+        pages = t.memory.live;
+      });
+    } };
 }
 
 impl<F: Frames + Drop> Tables<F> {
@@ -69,11 +79,13 @@ impl<F: Frames + Drop> Tables<F> {
     {
         let images = ImageTable::new(alloc)?;
         let registry = Registry::new(alloc)?;
+        let pools = Room::new(alloc, MOST_IMAGES)?;
+        let reserves = Room::new(alloc, MOST_IMAGES)?;
         Ok(Tables {
             memory,
             images,
-            pools: List::new(alloc),
-            reserves: List::new(alloc),
+            pools,
+            reserves,
             guard,
             platform,
             registry,
@@ -83,6 +95,51 @@ impl<F: Frames + Drop> Tables<F> {
 }
 
 impl<F: Frames> Tables<F> {
+    /// Puts an image at the end, whose region begins at a base, with an empty pool and a reserve of which no page is taken. It answers
+    /// the image's number; None where there is no place for one more, and then nothing changes. It takes the memory of the pool and
+    /// of the reserve, and costs n log n steps for n sections.
+    pub fn admit(
+        &mut self,
+        alloc: Global,
+        name: Guid,
+        base: u64,
+        image: &Image,
+        parts: List<Part>,
+    ) -> Result<Option<u32>, NoMemory>
+        requires region { encloses mmram (region_of (region_at base image.now)) ≡ true }
+        requires live { IsRegionLive self.old.pages (placed name base image.now parts) }
+        requires header { image.now.headers ≤ image.now.size }
+        requires count { length parts ≡ image.now.parts }
+        requires within { LieBetween image.now.headers image.now.size parts }
+        requires apart { AreApart parts }
+        ensures value { IfOk result (λ number. number ≡ number_for self.old.site.images) }
+        ensures joins { IfOk result (λ number. self.new ≡ with_image number (placed name base image.now parts) self.old) }
+        ensures err { OnErr result (self.new ≡ self.old) }
+    {
+        let pool = PoolTree::new(alloc)?;
+        let reserve = RunMap::new(alloc, RESERVE_PAGES)?;
+        self.keeps();
+        match self.images.admit(name, base, image, parts) {
+            Some(number) => {
+                self.pools.push(pool);
+                self.reserves.push(reserve);
+                Ok(Some(number))
+            }
+            None => Ok(None),
+        }
+    }
+
+    /// Ends registration, for good.
+    pub fn lock(&mut self)
+        ensures { self.new ≡ record self.old {
+          registry = record self.old.registry { frozen = true };
+          locked = true;
+        } }
+    {
+        self.registry.freeze();
+        self.locked = true;
+    }
+
     /// Whether handlers may be registered no more.
     #[inline(always)]
     pub fn is_locked(&self) -> bool
@@ -95,6 +152,7 @@ impl<F: Frames> Tables<F> {
     pub fn keeps(&self)
         ensures tables { IsTables self.now }
         ensures placed { All IsPlaced self.now.site.images }
+        ensures few { length self.now.site.images ≤ 32 }
     {
         let _ = self.images.len();
     }

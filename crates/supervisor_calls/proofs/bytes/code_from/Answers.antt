@@ -1,4 +1,4 @@
-use Rattle.std.proofs.Common.{List, ℕ, ◌++◌, ◌+◌, ◌-◌, ◌∙◌, drop, take, ap, replicate, length-drop, arith}
+use Rattle.std.proofs.Common.{List, ℕ, ◌++◌, ◌-◌, ◌∙◌, drop, take, ap, replicate, length-drop, arith}
 use Rattle.supervisor_calls.proofs.ByteLemmas.{one_word, two_words, three_words, further}
 use Rattle.supervisor_calls.proofs.bytes.code_from.Goals as goal
 

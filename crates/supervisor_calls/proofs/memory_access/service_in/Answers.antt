@@ -1,4 +1,4 @@
-use Rattle.std.proofs.Common.{ℕ, Bool, false, ne_eqb, ◌≡◌, ◌==◌, ◌∙◌, sym, ap, subst, arith}
+use Rattle.std.proofs.Common.{ℕ, false, ne_eqb, ◌≡◌, ◌==◌, ◌∙◌, sym, subst, arith}
 use Rattle.mm_base.specs.Services.{entry_of}
 use Rattle.supervisor_calls.proofs.TableLemmas.{Searched, searched_more, searched_all}
 use Rattle.supervisor_calls.proofs.memory_access.service_in.Goals as goal

@@ -18,7 +18,7 @@ overflow_cast-at g c =
 pub code_from-requires-clause-within : goal.code_from-requires-clause-within
 code_from-requires-clause-within g c =
     let there = executed_where c.args.self.now c.keeps.ensures.tables c.keeps.ensures.placed c.args.image c.args.at c.args.n c.args.trapped c.requires.passes in
-    omega (arith, there.from, there.to, c.self.invariant.memory)
+    omega (arith, there.from, there.to, c.self.invariant.keeps.memory)
 
 pub code_from-requires-clause-live : goal.code_from-requires-clause-live
 code_from-requires-clause-live g c =

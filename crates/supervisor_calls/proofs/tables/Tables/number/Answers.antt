@@ -28,7 +28,7 @@ pub read-requires-clause-within : goal.read-requires-clause-within
 read-requires-clause-within g c =
     let where_is = passed_where c.args.self.now c.keeps.ensures.tables c.keeps.ensures.placed c.args.image c.args.at c.args.n c.args.trapped rights.Read c.requires.passes in
     let there = memory_side c.args.self.now.pages c.args.at c.args.n (some_width c.args.n c.requires.width).0 where_is (sym c.is_device.ensures ∙ c.if-is_device.false) in
-    omega (arith, there.from, there.to, c.self.invariant.memory)
+    omega (arith, there.from, there.to, c.self.invariant.keeps.memory)
 
 pub read-requires-clause-live : goal.read-requires-clause-live
 read-requires-clause-live g c =

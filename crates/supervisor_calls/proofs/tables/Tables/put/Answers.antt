@@ -27,7 +27,7 @@ pub write-requires-clause-within : goal.write-requires-clause-within
 write-requires-clause-within g c =
     let where_is = passed_where c.args.self.now c.keeps.ensures.tables c.keeps.ensures.placed c.args.image c.args.at c.args.n c.args.trapped rights.Write c.requires.passes in
     let there = memory_side c.args.self.now.pages c.args.at c.args.n (some_width c.args.n c.requires.width).0 where_is (sym c.is_device.ensures ∙ c.if-is_device.false) in
-    omega (arith, there.from, there.to, c.self.invariant.memory)
+    omega (arith, there.from, there.to, c.self.invariant.keeps.memory)
 
 pub write-requires-clause-live : goal.write-requires-clause-live
 write-requires-clause-live g c =
@@ -40,5 +40,10 @@ pub invariant_of-self-else-is_device : goal.invariant_of-self-else-is_device
 invariant_of-self-else-is_device g c =
     let where_is = passed_where c.args.self.now c.keeps.ensures.tables c.keeps.ensures.placed c.args.image c.args.at c.args.n c.args.trapped rights.Write c.requires.passes in
     let there = memory_side c.args.self.now.pages c.args.at c.args.n (some_width c.args.n c.requires.width).0 where_is (sym c.is_device.ensures ∙ c.if-is_device.false) in
-    written_keeps _ c.write.new.self.bytes c.write.new.self.live c.self.invariant (c.args.at - 0x80000000) c.args.n c.args.value (some_width c.args.n c.requires.width).1
-    (omega (arith, there.from, there.to, c.self.invariant.memory)) c.write.ensures.bytes c.write.ensures.live
+    record {
+      pools = c.self.invariant.pools;
+      reserves = c.self.invariant.reserves;
+      keeps =
+          written_keeps _ c.write.new.self.bytes c.write.new.self.live c.self.invariant.keeps (c.args.at - 0x80000000) c.args.n c.args.value (some_width c.args.n c.requires.width).1
+          (omega (arith, there.from, there.to, c.self.invariant.keeps.memory)) c.write.ensures.bytes c.write.ensures.live;
+    }

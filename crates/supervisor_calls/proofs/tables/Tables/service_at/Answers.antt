@@ -1,4 +1,4 @@
-use Rattle.std.proofs.Common.{◌≡◌, ℕ, ◌+◌, ◌^◌, ◌≤◌, ◌∙◌, List, All, ap, sym, subst}
+use Rattle.std.proofs.Common.{◌+◌, ◌^◌, ◌≤◌, ◌∙◌, All, ap, sym, subst}
 use Rattle.image_table.specs.HomeRanges.{IsPlaced}
 use Rattle.mm_base.specs.declared.range.Range.{Range}
 use Rattle.supervisor_calls.specs.Accesses.{service_at, service_of}
