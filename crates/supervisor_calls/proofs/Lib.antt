@@ -1,3 +1,4 @@
 pub mod ByteLemmas
+pub mod LawLemmas
 pub mod TableLemmas
 pub mod WhereLemmas

@@ -86,7 +86,7 @@ any_by range right region home homes true is inside rest e =
     grind (arith, nat_tests, inside, covers)
 any_by range right region home homes false is inside rest e = rest (sym (rw is refl) ∙ e)
 
-region_covers : (range : Range) (right : Right) (region : Range) (homes : List Home) → All (λ home. encloses region home.0 ≡ true) homes
+pub region_covers : (range : Range) (right : Right) (region : Range) (homes : List Home) → All (λ home. encloses region home.0 ≡ true) homes
     → list_any (grants right range) homes ≡ true → encloses region range ≡ true
 region_covers range right region [] inside e = absurd cc
 region_covers range right region (home ∷ homes) inside e =

@@ -1,3 +1,4 @@
 pub mod Accesses
 pub mod Domains
+pub mod Laws
 pub mod Tables

@@ -6,6 +6,7 @@
 mod bus;
 mod bytes;
 mod domain;
+pub mod laws;
 mod memory_access;
 mod tables;
 
