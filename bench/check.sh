@@ -2,7 +2,9 @@
 # What `check` costs the built program (its path is the first argument), over volumes of 10 to 16 MB and of a quarter of that: "bodies"
 # has files of 16 KB whose bytes are all summed, "empty" has files of 24 bytes, "sections" has one driver file of sections of 4 bytes,
 # "fixups" has driver files with images of 1,000 fixups each, and "tables" ones with images of 1,000 sections each. "reversed" has one
-# image whose table has the last section first; its smaller volume has a quarter of the sections, and so its ratio shows the square.
+# image whose table has the last section first; its smaller volume has a quarter of the sections, and so its ratio would show a square.
+# So it is of "rising", "falling", "shuffled" (always in the same way) and "swapped" (rising, but for the last two), which have one image
+# of sections of a byte each within a MiB, over which its relocations go; the sections of "spread" are shuffled over 16 MiB.
 # For each it prints the best of 5 times, MB (1,000,000 bytes) a second, peak memory, and beside them what `cat` and `cksum` take for
 # the same file; and then the ratio of a byte of the larger volume to one of the smaller, without the time of a run on no bytes, which
 # is printed first.
@@ -15,6 +17,7 @@ cd "$folder"
 # volume KIND COUNT FILE: writes a volume with so many files, or with one file of so many sections.
 volume() {
     python3 - "$@" << 'END'
+import random
 import struct
 import sys
 
@@ -37,7 +40,7 @@ def header(ffs3, length, checksum):
     """The header of a volume of so many bytes."""
     return bytes(16) + (FFS3 if ffs3 else FFS2) + struct.pack("<QIIHHHBB", length, 0x4856465f, 0x800, 72, checksum, 0, 0, 2) + bytes(16)
 
-def image(parts, relocations):
+def image(parts, relocations, machine=0x0ebc):
     """An image of EFI byte code of parts, (address, bytes) in the table's order, with relocations at an address."""
     table = 0x40 + 24 + 160
     headers = table + 40 * len(parts)
@@ -45,13 +48,13 @@ def image(parts, relocations):
     entry = next(at for at, _ in parts if at % 2 == 0)
     optional = struct.pack("<H14xI36xII", 0x20b, entry, size, headers)
     optional += struct.pack("<4xH38xI40xII", 11, 6, *relocations)
-    made = b"MZ" + bytes(58) + struct.pack("<I", 0x40)
-    made += b"PE\0\0" + struct.pack("<HH12xHH", 0x0ebc, len(parts), 160, 0) + optional
+    made = [b"MZ" + bytes(58) + struct.pack("<I", 0x40)]
+    made.append(b"PE\0\0" + struct.pack("<HH12xHH", machine, len(parts), 160, 0) + optional)
     raw = headers
     for at, held in parts:
-        made += struct.pack("<8xIIII12xI", len(held), at, len(held), raw, 0x60000020)
+        made.append(struct.pack("<8xIIII12xI", len(held), at, len(held), raw, 0x60000020))
         raw += len(held)
-    return made + b"".join(held for _, held in parts)
+    return b"".join(made) + b"".join(held for _, held in parts)
 
 def driver(number, image):
     """A driver file with this image, with the expression TRUE in front."""
@@ -71,6 +74,23 @@ def parted(count, order):
     """An image of so many sections of 16 bytes, without relocations."""
     return image([(0x1000000 - 16 * count + 16 * k, bytes(16)) for k in range(count)][::order], (0, 0))
 
+def tiny(count, order, room):
+    """An image of x64 of so many sections of a byte, which end within so many bytes, where the headers don't count, or in the image's
+    16 MiB. The first eight hold the head of one block of relocations over all of them; the others are entries that do nothing."""
+    begin = 0x40 + 24 + 160 + 40 * count
+    step = (min(room, 0x1000000 - begin) - 8) // (count - 8) & ~1
+    places = [begin + (k if k < 8 else 8 + step * (k - 8)) for k in range(count)]
+    length = places[-1] + 1 - begin & ~1
+    head = struct.pack("<II", 0, length)
+    parts = [(at, head[k:k + 1] if k < 8 else b"\x05") for k, at in enumerate(places)]
+    if order == "falling":
+        parts.reverse()
+    elif order == "swapped":
+        parts[-2:] = [parts[-1], parts[-2]]
+    elif order == "shuffled":
+        random.Random(1).shuffle(parts)
+    return image(parts, (begin, length), 0x8664)
+
 if kind == "bodies":
     body = bytes((k * k + 7 * k) & 0xff for k in range(16_000))
     files = b"".join(file(k, 0x0e, 0x40, body) for k in range(count))
@@ -82,6 +102,10 @@ elif kind == "tables":
     files = b"".join(driver(k, parted(1000, 1)) for k in range(count))
 elif kind == "reversed":
     files = driver(1, parted(count, -1))
+elif kind in ["rising", "falling", "shuffled", "swapped"]:
+    files = driver(1, tiny(count, kind, 0x100000))
+elif kind == "spread":
+    files = driver(1, tiny(count, "shuffled", 0x1000000))
 else:
     files = file(1, 0x0e, 1, b"\x04\0\0\x19" * count, large=True)
 ffs3 = kind not in ["bodies", "empty"]
@@ -125,7 +149,7 @@ for _ in 1 2 3 4 5; do
 done
 echo "no bytes: $start us"
 
-for kind in bodies empty sections fixups tables reversed; do
+for kind in bodies empty sections fixups tables reversed rising falling shuffled swapped spread; do
     case $kind in
     bodies) counts='250 1000' ;;
     empty) counts='125000 500000' ;;
@@ -133,21 +157,25 @@ for kind in bodies empty sections fixups tables reversed; do
     fixups) counts='250 1000' ;;
     tables) counts='70 280' ;;
     reversed) counts='1000 4000' ;;
+    *) counts='16384 65535' ;;
     esac
+    word=driver
+    case $kind in rising | falling | shuffled | swapped | spread) word=native ;; esac
     short=
     for count in $counts; do
         volume "$kind" "$count" sample.fd
         size=$(stat -c %s sample.fd)
         memory=$(/usr/bin/time -f %M "$program" check sample.fd 2>&1 > report)
         lines=$(wc -l < report)
-        case $kind in sections | reversed) wanted=2 ;; *) wanted=$((count + 1)) ;; esac
+        case $kind in bodies | empty | fixups | tables) wanted=$((count + 1)) ;; *) wanted=2 ;; esac
         if [ "$lines" != "$wanted" ]; then
             echo "$kind: not $wanted lines" >&2
             exit 1
         fi
         case $kind in
-        fixups | tables | reversed)
-            if [ "$(grep -c ' driver$' report)" != $((wanted - 1)) ]; then
+        bodies | empty | sections) ;;
+        *)
+            if [ "$(grep -c " $word\$" report)" != $((wanted - 1)) ]; then
                 echo "$kind: not all drivers are sound" >&2
                 exit 1
             fi

@@ -2,7 +2,7 @@
 //! files.
 use crate::checks::is_listed;
 use crate::drivers::{Contents, Driver, NATIVE, SOUND, TRUE, USUAL, volume_with};
-use crate::volumes::{Layout, Part, TEXT, edited};
+use crate::volumes::{Layout, NO_RULES, POLICY_NAME, Part, TEXT, edited};
 use mm_base::NoMemory;
 use std::alloc::Global;
 use std::test::Fail;
@@ -11,12 +11,6 @@ use std::test::Fail;
 const EXTENDED_HEADER: Layout = Layout {
     length: 20,
     pieces: &[(0, b"the volume's own\x14")],
-};
-
-/// A raw section of 4 bytes.
-const RAW_SECTION: Layout = Layout {
-    length: 8,
-    pieces: &[(0, b"\x08\0\0\x19rule")],
 };
 
 /// A pad file around the extended header, the policy, and a file of another type.
@@ -29,11 +23,11 @@ const FRONT: &[Part] = &[
         body: &[EXTENDED_HEADER],
     },
     Part {
-        name: b"PSMM\x02\0\0\x40\x80\0\0\0\0\0\0\x02",
+        name: POLICY_NAME,
         kind: 0x02,
         attributes: 0,
         off: 0,
-        body: &[RAW_SECTION],
+        body: NO_RULES,
     },
     Part {
         name: b"the core, number",
@@ -72,14 +66,14 @@ const BACK: &[Part] = &[Part {
 }];
 
 const USUAL_REPORT: &[&[u8]] = &[
-    b"volume 000005c0 ffs2 files 7
-file 00000078 4d4d5350-0002-4000-8000-000000000002 type 02 size 00000020 policy
-file 00000098 20656874-6f63-6572-2c20-6e756d626572 type 0d size 0000001c passed
-file 000000b8 76697264-7265-6e20-756d-626572203031 type 0e size 00000184 native
-file 00000240 76697264-7265-6e20-756d-626572203032 type 0e size 0000003c refused compressed
-file 00000280 76697264-7265-6e20-756d-626572203033 type 0e size 00000184 driver
-file 00000408 76697264-7265-6e20-756d-626572203034 type 0e size 00000194 driver
-file 000005a0 ffffffff-ffff-ffff-ffff-ffffffffffff type f0 size 0000001c pad
+    b"volume 000005d0 ffs2 files 7
+file 00000078 4d4d5350-0002-4000-8000-000000000002 type 02 size 0000002c policy
+file 000000a8 20656874-6f63-6572-2c20-6e756d626572 type 0d size 0000001c passed
+file 000000c8 76697264-7265-6e20-756d-626572203031 type 0e size 00000184 native
+file 00000250 76697264-7265-6e20-756d-626572203032 type 0e size 0000003c refused compressed
+file 00000290 76697264-7265-6e20-756d-626572203033 type 0e size 00000184 driver
+file 00000418 76697264-7265-6e20-756d-626572203034 type 0e size 00000194 driver
+file 000005b0 ffffffff-ffff-ffff-ffff-ffffffffffff type f0 size 0000001c pad
 ",
 ];
 
@@ -87,7 +81,7 @@ file 000005a0 ffffffff-ffff-ffff-ffff-ffffffffffff type f0 size 0000001c pad
 fn is_usual_listed(alloc: Global) -> Result<bool, NoMemory> {
     let plain = volume_with(alloc, FRONT, USUAL_DRIVERS, BACK)?;
     let length = plain.len();
-    let edits = &[(50, b"\xb2\xe7\x60\0" as &[u8])];
+    let edits = &[(50, b"\xa2\xe7\x60\0" as &[u8])];
     let volume = edited(alloc, plain.as_slice(), length, edits)?;
     is_listed(alloc, volume.as_slice(), USUAL_REPORT)
 }
@@ -156,11 +150,11 @@ const NAMESAKES: &[Part] = &[
         body: TEXT,
     },
     Part {
-        name: b"PSMM\x02\0\0\x40\x80\0\0\0\0\0\0\x02",
+        name: POLICY_NAME,
         kind: 0x02,
         attributes: 0,
         off: 0,
-        body: TEXT,
+        body: NO_RULES,
     },
 ];
 
@@ -182,17 +176,17 @@ const ONCE: &[Driver] = &[
 ];
 
 const ONCE_REPORT: &[&[u8]] = &[
-    b"volume 00000998 ffs2 files 10
+    b"volume 000009a8 ffs2 files 10
 file 00000048 76697264-7265-6e20-756d-626572203031 type 07 size 0000001c passed
 file 00000068 76697264-7265-6e20-756d-626572203032 type f0 size 0000001c pad
-file 00000088 4d4d5350-0002-4000-8000-000000000002 type 02 size 0000001c policy
-file 000000a8 76697264-7265-6e20-756d-626572203031 type 0e size 00000174 driver
-file 00000220 76697264-7265-6e20-756d-626572203032 type 0e size 00000174 driver
-file 00000398 4d4d5350-0002-4000-8000-000000000002 type 0e size 00000174 driver
-file 00000510 76697264-7265-6e20-756d-626572203033 type 0e size 0000001e refused noimage
-file 00000530 76697264-7265-6e20-756d-626572203033 type 0e size 00000174 refused pe machine at 00000044
-file 000006a8 76697264-7265-6e20-756d-626572203033 type 0e size 00000174 refused depex unknown
-file 00000820 76697264-7265-6e20-756d-626572203033 type 0e size 00000174 driver
+file 00000088 4d4d5350-0002-4000-8000-000000000002 type 02 size 0000002c policy
+file 000000b8 76697264-7265-6e20-756d-626572203031 type 0e size 00000174 driver
+file 00000230 76697264-7265-6e20-756d-626572203032 type 0e size 00000174 driver
+file 000003a8 4d4d5350-0002-4000-8000-000000000002 type 0e size 00000174 driver
+file 00000520 76697264-7265-6e20-756d-626572203033 type 0e size 0000001e refused noimage
+file 00000540 76697264-7265-6e20-756d-626572203033 type 0e size 00000174 refused pe machine at 00000044
+file 000006b8 76697264-7265-6e20-756d-626572203033 type 0e size 00000174 refused depex unknown
+file 00000830 76697264-7265-6e20-756d-626572203033 type 0e size 00000174 driver
 ",
 ];
 

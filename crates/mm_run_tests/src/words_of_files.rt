@@ -247,7 +247,7 @@ const LARGE: &[Part] = &[
         kind: 0x02,
         attributes: 0x01,
         off: 0,
-        body: TEXT,
+        body: NO_RULES,
     },
     Part {
         name: b"driver number 02",
@@ -266,11 +266,11 @@ const LARGE: &[Part] = &[
 ];
 
 const LARGE_REPORT: &[&[u8]] = &[
-    b"volume 00000388 ffs3 files 4
+    b"volume 00000398 ffs3 files 4
 file 00000048 76697264-7265-6e20-756d-626572203031 type 0e size 0000017c driver
-file 000001c8 4d4d5350-0002-4000-8000-000000000002 type 02 size 00000024 policy
-file 000001f0 76697264-7265-6e20-756d-626572203032 type 07 size 00000018 passed
-file 00000208 76697264-7265-6e20-756d-626572203033 type 0e size 0000017c refused bodysum
+file 000001c8 4d4d5350-0002-4000-8000-000000000002 type 02 size 00000034 policy
+file 00000200 76697264-7265-6e20-756d-626572203032 type 07 size 00000018 passed
+file 00000218 76697264-7265-6e20-756d-626572203033 type 0e size 0000017c refused bodysum
 ",
 ];
 

@@ -1,24 +1,18 @@
 -- What an image says of its size, its entry and its sections.
-use Rattle.std.proofs.Common.{◌≡◌, ◌≢◌, ◌↔◌, inl, inr, ℕ, zero, suc, ◌+◌, ◌-◌, ◌%◌, ◌≤◌, ◌<◌, Bool, true, false, ◌==◌, ◌||◌, ◌&&◌, nat_lt, List, [], ◌∷◌, ◌++◌, map, get_or, None, sym, ap, ◌∙◌, arith}
+use Rattle.std.proofs.Common.{◌≡◌, ◌≢◌, inl, inr, ℕ, zero, suc, ◌+◌, ◌-◌, ◌%◌, ◌≤◌, ◌<◌, Bool, true, false, ◌==◌, ◌||◌, ◌&&◌, nat_lt, List, [], ◌∷◌, ◌++◌, map, get_or, None, sym, ap, ◌∙◌, arith}
 use Rattle.std.specs.List.{range_with_len, list_any}
 use Rattle.std.proofs.lemmas.Bool.{cases_Bool, cond-true, cond-false, and_parts, ne_eqb}
 use Rattle.std.proofs.lemmas.Bool.Decides.{nat_tests}
-use Rattle.std.proofs.lemmas.List.FromFn.{get_or-map-range_with_len}
 use Rattle.mm_base.proofs.CheckLemmas.{AllPass, all_pass}
-use Rattle.mm_base.proofs.RangeLemmas.{overlap_is_a_unit}
 use Rattle.mm_base.specs.Checks.{first_failing}
-use Rattle.mm_base.specs.Range.{share_a_unit, Has}
 use Rattle.mm_base.specs.declared.image.Image.{Image}
-use Rattle.mm_base.specs.declared.image.Part.{Part}
 use Rattle.pe_loader.specs.Headers.{machine_of, entry_of, image_size, part_count, header_checks}
-use Rattle.pe_loader.specs.Sections.{part_at, parts, range_of, overlaps_first, holds_code, entry_passes, entry_check, section_checks, checks}
-use Rattle.pe_loader.specs.Forms.{copies_to, plain_byte, plain_form}
+use Rattle.pe_loader.specs.Sections.{part_at, parts, holds_code, layout_of, entry_passes, entry_check, section_checks, checks}
+use Rattle.pe_loader.specs.Forms.{copies_to, plain_form}
 use Rattle.pe_loader.specs.Images.{image_of, IsImage}
 use Rattle.pe_loader.specs.declared.fixup.Fixup.{Fixup}
-use Rattle.pe_loader.proofs.FormLemmas.{plain_of_part}
-use Rattle.pe_loader.proofs.ImageLemmas.{laid_out_of, parts_of, size_of, headers_of}
-use Rattle.pe_loader.proofs.LoadLemmas.{copy_in_image}
-use Rattle.pe_loader.proofs.SectionLemmas.{overlaps_later}
+use Rattle.pe_loader.proofs.FormLemmas.{plain_of_part, get_or-form, copy_in_image}
+use Rattle.pe_loader.proofs.ImageLemmas.{headers_there, laid_out_of, parts_of, size_of, headers_of}
 
 -- what the headers say
 machine_is : (bytes : List ℕ) (image : Image) → image ≡ image_of bytes → image.machine ≡ machine_of bytes
@@ -45,7 +39,7 @@ any_there p f a (suc n) any =
 -- the last of some checks passes where all do
 last_passes : (bytes : List ℕ) → first_failing (checks bytes) ≡ None → entry_passes bytes ≡ true
 unfolding checks
-last_passes bytes none = in_last (header_checks bytes ++ section_checks bytes) (all_pass (checks bytes) none)
+last_passes bytes none = in_last (header_checks bytes ++ section_checks bytes (layout_of bytes)) (all_pass (checks bytes) none)
   where
     in_last : (front : List _) → AllPass (front ++ entry_check bytes ∷ []) → entry_passes bytes ≡ true
     in_last [] pass = pass.0
@@ -54,7 +48,7 @@ last_passes bytes none = in_last (header_checks bytes ++ section_checks bytes) (
 module _ (bytes : List ℕ) (image : Image) (fixups : List Fixup) (is : IsImage bytes image fixups) where
   pub size_is_bounded : (0 < image.size) × (image.size ≤ 16777216) × (image.headers ≤ image.size)
   size_is_bounded =
-      let headers = (laid_out_of bytes is.passes).headers in
+      let headers = headers_there bytes is.passes in
       let size = size_of bytes image is.says in
       let heads = headers_of bytes image is.says in
       (omega (arith, headers.some), omega (arith, headers.most), omega (arith, headers.in_image))
@@ -90,38 +84,9 @@ module _ (bytes : List ℕ) (image : Image) (fixups : List Fixup) (is : IsImage 
   -- what a section copies
   pub copies_are_the_file : (k place : ℕ) → k < image.parts → copies_to place (part_at bytes k) ≡ true
       → get_or (plain_form bytes) place 0 ≡ get_or bytes ((part_at bytes k).raw + (place - (part_at bytes k).at)) 0
-  unfolding plain_form
   copies_are_the_file k place h copies =
       let laid = laid_out_of bytes is.passes in
       let there : k < part_count bytes = omega (arith, parts_of bytes image is.says) in
       let high : place < (part_at bytes k).at + (part_at bytes k).copied = grind (arith, nat_tests) in
-      let within : place < image_size bytes = omega (arith, copy_in_image bytes k laid there) in
-      get_or-map-range_with_len (plain_byte bytes) 0 (image_size bytes) place place 0 within (omega arith)
-      ∙ plain_of_part bytes k place laid there copies
-
--- ---- overlaps
-
--- a section that overlaps one of the first few
-some_overlaps : (bytes : List ℕ) (part : Part) (n : ℕ) → overlaps_first bytes part n ≡ true
-    → (k : ℕ) × ((k < n) × (share_a_unit (range_of (part_at bytes k)) (range_of part) ≡ true))
-some_overlaps bytes part zero is = let wrong : false ≡ true = is in cc
-some_overlaps bytes part (suc n) is =
-    elim (cases_Bool (overlaps_first bytes part n)) [
-      | inl there ↦
-          let w = some_overlaps bytes part n there in
-          (w.0, (omega (arith, w.1.0), w.1.1))
-      | inr none ↦ (n, (omega arith, sym (ap (λ b. b || share_a_unit (range_of (part_at bytes n)) (range_of part)) none) ∙ is))
-    ]
-
-pub overlap_is_a_byte : (bytes : List ℕ) (part : Part) (n : ℕ)
-    → (overlaps_first bytes part n ≡ true)
-    ↔ ((k : ℕ) × ((k < n) × ((place : ℕ) × (Has (range_of (part_at bytes k)) place × Has (range_of part) place))))
-overlap_is_a_byte bytes part n = (
-  λ is.
-      let w = some_overlaps bytes part n is in
-      let unit = (overlap_is_a_unit (range_of (part_at bytes w.0)) (range_of part)).0 w.1.1 in
-      (w.0, (w.1.0, (unit.0, unit.1))),
-  λ w.
-      overlaps_later bytes part n w.0 w.1.0
-      ((overlap_is_a_unit (range_of (part_at bytes w.0)) (range_of part)).1 (w.1.1.0, w.1.1.1)),
-)
+      let within : place < image_size bytes = omega (arith, copy_in_image bytes (layout_of bytes) k laid there) in
+      get_or-form bytes (layout_of bytes) place within ∙ plain_of_part bytes (layout_of bytes) k place laid there copies

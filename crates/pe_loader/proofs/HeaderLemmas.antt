@@ -20,8 +20,8 @@ pub fails : (checks : List (Check PeKind)) (fault : PeFault) (k at : ℕ) → k 
 fails checks fault k at h pass e is there = record {
   check = get_or checks k passed_check;
   first = first_at checks k passed_check h pass e;
-  at = ap (λ (f : PeFault). f.at) is ∙ there;
-  kind = ap (λ (f : PeFault). f.kind) is;
+  kind_is = ap (λ (f : PeFault). f.kind) is;
+  place_is = ap (λ (f : PeFault). f.at) is ∙ there;
 }
 
 -- what headers say that pass their checks

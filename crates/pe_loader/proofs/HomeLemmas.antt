@@ -12,14 +12,14 @@ use Rattle.mm_base.specs.declared.image.Image.{Image}
 use Rattle.mm_base.specs.declared.image.Part.{Part}
 use Rattle.pe_loader.specs.Headers.{image_size, headers_size, relocs_of}
 use Rattle.pe_loader.specs.Sections.{parts}
-use Rattle.pe_loader.specs.Forms.{copies_to, plain_byte, plain_form}
+use Rattle.pe_loader.specs.Forms.{copies_to, plain_byte, form_of, plain_form}
 use Rattle.pe_loader.specs.Fixups.{StaysWithin}
 use Rattle.pe_loader.specs.Images.{IsImage}
 use Rattle.pe_loader.specs.Loading.{difference, put, fixed, loaded}
 use Rattle.pe_loader.specs.declared.fixup.Fixup.{Fixup}
 use Rattle.pe_loader.specs.declared.fixup_kind.FixupKind.{FixupKind}
 use Rattle.pe_loader.specs.declared.fixup_kind.FixupKind.TheVariants.{Absolute, High, Low, HighLow, Dir64, Unknown}
-use Rattle.pe_loader.proofs.LoadLemmas.{stays_within}
+use Rattle.pe_loader.proofs.ApplyLemmas.{stays_within}
 use Rattle.pe_loader.proofs.LoadedLemmas.{length-plain_form, all_pass_there, passes_here}
 
 -- ---- small bytes
@@ -40,17 +40,17 @@ small_choice true one f found small each = small
 small_choice false one f None small each = omega arith
 small_choice false one f (Some part) small each = each part
 
-plain_small : (bytes : List ℕ) (place : ℕ) → AreBytes bytes → plain_byte bytes place < 256
+plain_small : (bytes : List ℕ) (headers : ℕ) (sections : List Part) (place : ℕ) → AreBytes bytes → plain_byte bytes headers sections place < 256
 unfolding plain_byte
-plain_small bytes place small =
-    small_choice (nat_lt place (headers_size bytes)) (get_or bytes place 0) (λ (part : Part). get_or bytes (part.raw + (place - part.at)) 0)
-    (find (copies_to place) (parts bytes)) (small_at bytes place small) (λ part. small_at bytes (part.raw + (place - part.at)) small)
+plain_small bytes headers sections place small =
+    small_choice (nat_lt place headers) (get_or bytes place 0) (λ (part : Part). get_or bytes (part.raw + (place - part.at)) 0)
+    (find (copies_to place) sections) (small_at bytes place small) (λ part. small_at bytes (part.raw + (place - part.at)) small)
 
 form_small : (bytes : List ℕ) → AreBytes bytes → AreBytes (plain_form bytes)
-unfolding plain_form
+unfolding form_of
 form_small bytes small =
-    All-map (λ (byte : ℕ). byte < 256) (plain_byte bytes) (range_with_len 0 (image_size bytes))
-    (λ k d within. plain_small bytes (get_or (range_with_len 0 (image_size bytes)) k d) small)
+    All-map (λ (byte : ℕ). byte < 256) (plain_byte bytes (headers_size bytes) (parts bytes)) (range_with_len 0 (image_size bytes))
+    (λ k d within. plain_small bytes (headers_size bytes) (parts bytes) (get_or (range_with_len 0 (image_size bytes)) k d) small)
 
 -- ---- a number that is put back
 

@@ -1,6 +1,8 @@
 -- Bytes are one image, or have one fault.
-use Rattle.std.proofs.Common.{◌≡◌, ◌⊎◌, inl, inr, ℕ, zero, suc, ◌+◌, ◌≤◌, ◌<◌, Bool, true, false, not, List, [], ◌∷◌, ◌++◌, find, Option, Some, None, Result, Ok, Err, IfOk, IfErr, refl, sym, ap, ◌∙◌, subst, arith}
+use Rattle.std.proofs.Common.{◌≡◌, ◌⊎◌, inl, inr, ℕ, ◌+◌, ◌≤◌, ◌<◌, Bool, true, false, not, List, [], ◌∷◌, ◌++◌, find, Option, Some, None, Result, Ok, Err, IfOk, IfErr, refl, sym, ap, ◌∙◌, subst, arith}
 use Rattle.std.proofs.lemmas.Bool.{cond-true, cond-false, cases_Bool}
+use Rattle.courses.proofs.CheckLemmas.{one_first, never_first, none_or_first}
+use Rattle.courses.proofs.VerdictLemmas.{found, first}
 use Rattle.mm_base.specs.Checks.{Check, first_failing}
 use Rattle.mm_base.specs.declared.image.Image.{Image}
 use Rattle.mm_base.specs.declared.image.PeFault.{PeFault}
@@ -9,14 +11,18 @@ use Rattle.mm_base.specs.declared.image.PeKind.TheVariants.{Reloc}
 use Rattle.pe_loader.specs.Headers.{header_checks, optional_at, part_count, headers_size, image_size, table_at, relocs_of, FailsFirst}
 use Rattle.mm_base.specs.Range.{share_a_unit, Has}
 use Rattle.mm_base.proofs.RangeLemmas.{overlap_is_a_unit}
-use Rattle.pe_loader.specs.Sections.{part_at, range_of, section_checks, entry_check, checks}
-use Rattle.pe_loader.specs.Fixups.{Block, block_at, is_block, block_passes, IsBlockAt, Leads, fixups_in, directory_end, directory_fits, AreFixups}
-use Rattle.pe_loader.specs.Images.{image_of, IsImage, IsImageOf, AreRead, AreRefused, HasFault}
-use Rattle.pe_loader.specs.LayoutInside.{IsLaidOut}
+use Rattle.pe_loader.specs.Sections.{part_at, range_of, section_checks, entry_check, layout_of, checks}
+use Rattle.pe_loader.specs.Forms.{plain_form}
+use Rattle.pe_loader.specs.Fixups.{AreRead, AreRefused}
+use Rattle.pe_loader.specs.Images.{image_of, IsImage, IsImageOf, HasBadRelocations, HasFault}
+use Rattle.pe_loader.specs.LayoutInside.{HasHeaders, IsLaidOut}
+use Rattle.pe_loader.specs.ReadingInside.{form_in}
+use Rattle.pe_loader.specs.declared.layout.Layout.{Layout}
+use Rattle.mm_base.specs.declared.range.Range.{Range}
 use Rattle.pe_loader.specs.declared.fixup.Fixup.{Fixup}
 use Rattle.pe_loader.proofs.HeaderLemmas.{has_headers}
-use Rattle.pe_loader.proofs.SectionLemmas.{laid_out}
-use Rattle.pe_loader.proofs.BlockLemmas.{size_within}
+use Rattle.pe_loader.proofs.SectionLemmas.{laid_out, has_table}
+use Rattle.pe_loader.proofs.BlockLemmas.{one_list, read_or_refused, read_or_not}
 
 -- ---- checks behind others
 
@@ -44,120 +50,84 @@ pub fails_in_front : (xs ys : List (Check PeKind)) (fault : PeFault) → FailsFi
 fails_in_front xs ys fault fails = record {
   check = fails.check;
   first = find_front (λ (check : Check PeKind). not check.passes) xs ys fails.check fails.first;
-  at = fails.at;
-  kind = fails.kind;
+  kind_is = fails.kind_is;
+  place_is = fails.place_is;
 }
 
 pub fails_behind : (xs ys : List (Check PeKind)) (fault : PeFault) → first_failing xs ≡ None → FailsFirst ys fault → FailsFirst (xs ++ ys) fault
 fails_behind xs ys fault none fails = record {
   check = fails.check;
   first = find_behind (λ (check : Check PeKind). not check.passes) xs ys none ∙ fails.first;
-  at = fails.at;
-  kind = fails.kind;
+  kind_is = fails.kind_is;
+  place_is = fails.place_is;
 }
 
 -- all checks, part by part
 pub checks_by_headers : (bytes : List ℕ) (fault : PeFault) → FailsFirst (header_checks bytes) fault → FailsFirst (checks bytes) fault
 unfolding checks
 checks_by_headers bytes fault fails =
-    fails_in_front (header_checks bytes ++ section_checks bytes) (entry_check bytes ∷ []) fault (fails_in_front (header_checks bytes) (section_checks bytes) fault fails)
+    fails_in_front (header_checks bytes ++ section_checks bytes (layout_of bytes)) (entry_check bytes ∷ []) fault (fails_in_front (header_checks bytes) (section_checks bytes (layout_of bytes)) fault fails)
 
-pub checks_by_sections : (bytes : List ℕ) (fault : PeFault) → first_failing (header_checks bytes) ≡ None → FailsFirst (section_checks bytes) fault
+pub checks_by_sections : (bytes : List ℕ) (fault : PeFault) → first_failing (header_checks bytes) ≡ None → FailsFirst (section_checks bytes (layout_of bytes)) fault
     → FailsFirst (checks bytes) fault
 unfolding checks
 checks_by_sections bytes fault headers fails =
-    fails_in_front (header_checks bytes ++ section_checks bytes) (entry_check bytes ∷ []) fault (fails_behind (header_checks bytes) (section_checks bytes) fault headers fails)
+    fails_in_front (header_checks bytes ++ section_checks bytes (layout_of bytes)) (entry_check bytes ∷ []) fault (fails_behind (header_checks bytes) (section_checks bytes (layout_of bytes)) fault headers fails)
 
-both_none : (bytes : List ℕ) → first_failing (header_checks bytes) ≡ None → first_failing (section_checks bytes) ≡ None
-    → first_failing (header_checks bytes ++ section_checks bytes) ≡ None
-both_none bytes headers sections = find_behind (λ (check : Check PeKind). not check.passes) (header_checks bytes) (section_checks bytes) headers ∙ sections
+both_none : (bytes : List ℕ) → first_failing (header_checks bytes) ≡ None → first_failing (section_checks bytes (layout_of bytes)) ≡ None
+    → first_failing (header_checks bytes ++ section_checks bytes (layout_of bytes)) ≡ None
+both_none bytes headers sections = find_behind (λ (check : Check PeKind). not check.passes) (header_checks bytes) (section_checks bytes (layout_of bytes)) headers ∙ sections
 
-pub checks_by_entry : (bytes : List ℕ) (fault : PeFault) → first_failing (header_checks bytes) ≡ None → first_failing (section_checks bytes) ≡ None
+pub checks_by_entry : (bytes : List ℕ) (fault : PeFault) → first_failing (header_checks bytes) ≡ None → first_failing (section_checks bytes (layout_of bytes)) ≡ None
     → FailsFirst (entry_check bytes ∷ []) fault → FailsFirst (checks bytes) fault
 unfolding checks
 checks_by_entry bytes fault headers sections fails =
-    fails_behind (header_checks bytes ++ section_checks bytes) (entry_check bytes ∷ []) fault (both_none bytes headers sections) fails
+    fails_behind (header_checks bytes ++ section_checks bytes (layout_of bytes)) (entry_check bytes ∷ []) fault (both_none bytes headers sections) fails
 
-pub checks_pass : (bytes : List ℕ) → first_failing (header_checks bytes) ≡ None → first_failing (section_checks bytes) ≡ None
+pub checks_pass : (bytes : List ℕ) → first_failing (header_checks bytes) ≡ None → first_failing (section_checks bytes (layout_of bytes)) ≡ None
     → first_failing (entry_check bytes ∷ []) ≡ None → first_failing (checks bytes) ≡ None
 unfolding checks
 checks_pass bytes headers sections entry =
-    find_behind (λ (check : Check PeKind). not check.passes) (header_checks bytes ++ section_checks bytes) (entry_check bytes ∷ []) (both_none bytes headers sections) ∙ entry
+    find_behind (λ (check : Check PeKind). not check.passes) (header_checks bytes ++ section_checks bytes (layout_of bytes)) (entry_check bytes ∷ []) (both_none bytes headers sections) ∙ entry
 
--- where all pass, sections lie where they may
-pub laid_out_of : (bytes : List ℕ) → first_failing (checks bytes) ≡ None → IsLaidOut bytes
-unfolding checks
-laid_out_of bytes none =
-    let test : Check PeKind → Bool = λ check. not check.passes in
-    let front = none_in_front test (header_checks bytes ++ section_checks bytes) (entry_check bytes ∷ []) _ refl none in
-    let headers = none_in_front test (header_checks bytes) (section_checks bytes) _ refl front in
-    let sections : first_failing (section_checks bytes) ≡ None = sym (find_behind test (header_checks bytes) (section_checks bytes) headers) ∙ front in
-    laid_out bytes (has_headers bytes headers) sections
+-- where all pass, the headers and the sections do
+module _ (bytes : List ℕ) (none : first_failing (checks bytes) ≡ None) where
+  abbrev test : Check PeKind → Bool
+  test check = not check.passes
 
--- ---- one course of blocks
+  front_passes : first_failing (header_checks bytes ++ section_checks bytes (layout_of bytes)) ≡ None
+  unfolding checks
+  front_passes = none_in_front test (header_checks bytes ++ section_checks bytes (layout_of bytes)) (entry_check bytes ∷ []) _ refl none
 
--- Here blocks end, or one doesn't pass.
-abbrev StopsAt : List ℕ → ℕ → Type 0
-StopsAt bytes at = (is_block bytes at ≡ false) ⊎ ((is_block bytes at ≡ true) × (block_passes bytes at ≡ false))
+  headers_pass : first_failing (header_checks bytes) ≡ None
+  headers_pass = none_in_front test (header_checks bytes) (section_checks bytes (layout_of bytes)) _ refl front_passes
 
-stops_or_stands : (bytes : List ℕ) (at : ℕ) (block : Block) → StopsAt bytes at → IsBlockAt bytes at block → ⊥
-stops_or_stands bytes at block (inl none) is = let there = is.there in let wrong : true ≡ false = cc in cc
-stops_or_stands bytes at block (inr bad) is = let passes = is.passes in let no = bad.1 in let wrong : true ≡ false = cc in cc
+  pub headers_there : HasHeaders bytes
+  headers_there = has_headers bytes headers_pass
 
-pub record Same (some others : List Block) (one other : ℕ) : Type 0 where
-  pub blocks : some ≡ others
-  pub ends : one ≡ other
-
-one_course : (bytes : List ℕ) (at : ℕ) (some others : List Block) (one other : ℕ) → Leads bytes at some one → StopsAt bytes one
-    → Leads bytes at others other → StopsAt bytes other → Same some others one other
-one_course bytes at [] [] one other a stop b halt = record { blocks = refl; ends = sym a ∙ b }
-one_course bytes at [] (block ∷ others) one other a stop b halt =
-    absurd (stops_or_stands bytes at block (subst (StopsAt bytes) (sym a) stop) b.0)
-one_course bytes at (block ∷ some) [] one other a stop b halt =
-    absurd (stops_or_stands bytes at block (subst (StopsAt bytes) (sym b) halt) a.0)
-one_course bytes at (block ∷ some) (more ∷ others) one other a stop b halt =
-    let same : block ≡ more = a.0.is ∙ sym b.0.is in
-    let P : Block → Type 0 = λ b. Leads bytes (at + b.size) others other in
-    let rest = one_course bytes (at + block.size) some others one other a.1 stop (subst P (sym same) b.1) halt in
-    record { blocks = λ i. same i ∷ rest.blocks i; ends = rest.ends }
-
--- ---- relocations are read as one list of fixups, or refused
-
-pub one_list : (bytes : List ℕ) (some others : List Fixup) → AreFixups bytes some → AreFixups bytes others → some ≡ others
-one_list bytes some others a b =
-    let same = one_course bytes (relocs_of bytes).base a.blocks b.blocks a.end b.end a.leads (inl a.ends) b.leads (inl b.ends) in
-    a.are ∙ ap fixups_in same.blocks ∙ sym b.are
-
-read_or_refused : (bytes : List ℕ) (fixups : List Fixup) → AreFixups bytes fixups → AreRefused bytes → ⊥
-read_or_refused bytes fixups are (inl out) = let fits = are.fits in let wrong : true ≡ false = cc in cc
-read_or_refused bytes fixups are (inr (fits, bad)) =
-    let same = one_course bytes (relocs_of bytes).base are.blocks bad.blocks are.end bad.at are.leads (inl are.ends) bad.leads (inr (bad.there, bad.bad)) in
-    let P : ℕ → Type 0 = λ at. is_block bytes at ≡ false in
-    let none = subst P same.ends are.ends in
-    let there = bad.there in
-    let wrong : true ≡ false = cc in
-    cc
+  pub laid_out_of : IsLaidOut bytes (layout_of bytes)
+  laid_out_of =
+      let sections : first_failing (section_checks bytes (layout_of bytes)) ≡ None =
+      sym (find_behind test (header_checks bytes) (section_checks bytes (layout_of bytes)) headers_pass) ∙ front_passes in
+      laid_out bytes (layout_of bytes) (has_table bytes headers_there) sections
 
 -- ---- bytes are one image, or have one fault
 
 pub one_image : (bytes : List ℕ) (one other : Image) (some others : List Fixup) → IsImage bytes one some → IsImage bytes other others
     → (one ≡ other) × (some ≡ others)
 one_image bytes one other some others a b =
-    (a.says ∙ sym b.says, one_list bytes some others a.relocations b.relocations)
+    (a.says ∙ sym b.says, one_list (plain_form bytes) (image_size bytes) (relocs_of bytes) some others a.relocations b.relocations)
 
 pub never_both : (bytes : List ℕ) (image : Image) (fixups : List Fixup) (fault : PeFault) → IsImage bytes image fixups → HasFault bytes fault → ⊥
-never_both bytes image fixups fault is (inl bad) = let wrong : Some bad.check ≡ None = sym bad.first ∙ is.passes in cc
-never_both bytes image fixups fault is (inr bad) = read_or_refused bytes fixups is.relocations bad.refused
+never_both bytes image fixups fault is (inl bad) = never_first (checks bytes) fault.kind fault.at bad is.passes
+never_both bytes image fixups fault is (inr bad) = read_or_refused (plain_form bytes) (image_size bytes) (relocs_of bytes) fixups is.relocations bad.refused
 
 pub one_fault : (bytes : List ℕ) (one other : PeFault) → HasFault bytes one → HasFault bytes other → one ≡ other
 one_fault bytes one other (inl a) (inl b) =
-    let e : Some a.check ≡ Some b.check = sym a.first ∙ b.first in
-    let same : a.check ≡ b.check = cc in
-    let places : one.at ≡ other.at = a.at ∙ ap (λ (check : Check PeKind). check.at) same ∙ sym b.at in
-    let kinds : one.kind ≡ other.kind = a.kind ∙ ap (λ (check : Check PeKind). check.kind) same ∙ sym b.kind in
-    λ i. record { at = places i; kind = kinds i }
-one_fault bytes one other (inl a) (inr b) = let wrong : Some a.check ≡ None = sym a.first ∙ b.passes in cc
-one_fault bytes one other (inr a) (inl b) = let wrong : Some b.check ≡ None = sym b.first ∙ a.passes in cc
+    let same = one_first (checks bytes) one.kind other.kind one.at other.at a b in
+    λ i. record { at = same.places i; kind = same.kinds i }
+one_fault bytes one other (inl a) (inr b) = absurd (never_first (checks bytes) one.kind one.at a b.passes)
+one_fault bytes one other (inr a) (inl b) = absurd (never_first (checks bytes) other.kind other.at b a.passes)
 one_fault bytes one other (inr a) (inr b) =
     let places : one.at ≡ other.at = a.at ∙ sym b.at in
     let kinds : one.kind ≡ other.kind = a.kind ∙ sym b.kind in
@@ -166,69 +136,27 @@ one_fault bytes one other (inr a) (inr b) =
 -- what a reader answers is the image, or the fault, that the bytes are
 pub told_found : (bytes : List ℕ) (result : Result Image PeFault) → IfOk result (IsImageOf bytes) → IfErr result (HasFault bytes)
     → (image : Image) (fixups : List Fixup) → IsImage bytes image fixups → result ≡ Ok image
-told_found bytes (Ok other) ok err image fixups is = ap Ok (one_image bytes other image ok.0 fixups ok.1 is).0
-told_found bytes (Err fault) ok err image fixups is = absurd (never_both bytes image fixups fault is err)
+told_found bytes result ok err image fixups is =
+    found (IsImageOf bytes) (HasFault bytes) (λ image fault is has. never_both bytes image is.0 fault is.1 has)
+    (λ one other a b. (one_image bytes one other a.0 b.0 a.1 b.1).0) result ok err image (fixups, is)
 
 pub told_first : (bytes : List ℕ) (result : Result Image PeFault) → IfOk result (IsImageOf bytes) → IfErr result (HasFault bytes)
     → (fault : PeFault) → HasFault bytes fault → result ≡ Err fault
-told_first bytes (Ok image) ok err fault is = absurd (never_both bytes image ok.0 fault ok.1 is)
-told_first bytes (Err other) ok err fault is = ap Err (one_fault bytes other fault err is)
+told_first bytes result ok err fault has =
+    first (IsImageOf bytes) (HasFault bytes) (λ image fault is has. never_both bytes image is.0 fault is.1 has) (one_fault bytes) result ok err fault has
 
--- ---- each course of blocks stops
-
-record Stopped (bytes : List ℕ) (at : ℕ) : Type 0 where
-  pub blocks : List Block
-  pub end : ℕ
-  pub leads : Leads bytes at blocks end
-  pub stops : StopsAt bytes end
-
-stopped_from : (bytes : List ℕ) (at : ℕ) → ((place : ℕ) → at + 8 ≤ place → place ≤ directory_end bytes → Stopped bytes place) → Stopped bytes at
-stopped_from bytes at rest =
-    elim (cases_Bool (is_block bytes at)) [
-      | inl there ↦ elim (cases_Bool (block_passes bytes at)) [
-        | inl passes ↦
-            let within = size_within bytes at passes in
-            let more = rest (at + (block_at bytes at).size) (omega (arith, within.0)) within.1 in
-            record {
-              blocks = block_at bytes at ∷ more.blocks;
-              end = more.end;
-              leads = (record { there = there; is = refl; passes = passes }, more.leads);
-              stops = more.stops;
-            }
-        | inr bad ↦ record { blocks = []; end = at; leads = refl; stops = inr (there, bad) }
-      ]
-      | inr none ↦ record { blocks = []; end = at; leads = refl; stops = inl none }
-    ]
-
-stopped : (fuel : ℕ) (bytes : List ℕ) (at : ℕ) → directory_end bytes < at + fuel → at ≤ directory_end bytes → Stopped bytes at
-stopped zero bytes at far near = absurd (omega arith)
-stopped (suc fuel) bytes at far near = stopped_from bytes at (λ place behind within. stopped fuel bytes place (omega arith) within)
-
-pub read_or_not : (bytes : List ℕ) → AreRead bytes ⊎ AreRefused bytes
-read_or_not bytes =
-    elim (cases_Bool (directory_fits bytes)) [
-      | inl fits ↦
-          let course = stopped ((relocs_of bytes).length + 1) bytes (relocs_of bytes).base (omega arith) (omega arith) in
-          elim course.stops [
-            | inl ends ↦ inl (fixups_in course.blocks, record { fits = fits; blocks = course.blocks; end = course.end; leads = course.leads; ends = ends; are = refl })
-            | inr bad ↦ inr (inr (fits, record { blocks = course.blocks; at = course.end; leads = course.leads; there = bad.0; bad = bad.1 }))
-          ]
-      | inr out ↦ inr (inl out)
-    ]
+-- ---- there is one
 
 pub either : (bytes : List ℕ) → ((image : Image) × IsImageOf bytes image) ⊎ ((fault : PeFault) × HasFault bytes fault)
-either bytes = by_checks (first_failing (checks bytes)) refl
-  where
-    by_relocs : first_failing (checks bytes) ≡ None → AreRead bytes ⊎ AreRefused bytes
-        → ((image : Image) × IsImageOf bytes image) ⊎ ((fault : PeFault) × HasFault bytes fault)
-    by_relocs none (inl read) = inl (image_of bytes, (read.0, record { passes = none; says = refl; relocations = read.1 }))
-    by_relocs none (inr refused) =
-        inr (record { at = optional_at bytes + 152; kind = Reloc }, inr (record { passes = none; refused = refused; at = refl; kind = refl }))
-
-    by_checks : (first : Option (Check PeKind)) → first_failing (checks bytes) ≡ first
-        → ((image : Image) × IsImageOf bytes image) ⊎ ((fault : PeFault) × HasFault bytes fault)
-    by_checks (Some check) is = inr (record { at = check.at; kind = check.kind }, inl (record { check = check; first = is; at = refl; kind = refl }))
-    by_checks None is = by_relocs is (read_or_not bytes)
+either bytes =
+    elim (none_or_first (checks bytes)) [
+      | inl none ↦ elim (read_or_not (plain_form bytes) (image_size bytes) (relocs_of bytes)) [
+        | inl read ↦ inl (image_of bytes, (read.0, record { passes = none; says = refl; relocations = read.1 }))
+        | inr refused ↦
+            inr (record { at = optional_at bytes + 152; kind = Reloc }, inr (record { passes = none; refused = refused; at = refl; kind = refl }))
+      ]
+      | inr (check, fails) ↦ inr (record { at = check.at; kind = check.kind }, inl fails)
+    ]
 
 -- what an image says is what the headers say
 pub parts_of : (bytes : List ℕ) (image : Image) → image ≡ image_of bytes → image.parts ≡ part_count bytes
@@ -267,3 +195,31 @@ sections_lie_apart bytes image fixups j k place is earlier h one other =
     (overlap_is_a_unit (range_of (part_at bytes j)) (range_of (part_at bytes k))).1 (place, (one, other)) in
     let wrong : true ≡ false = sym both ∙ apart in
     cc
+
+-- ---- an image in the PE32+ format, by its layout
+
+-- what the relocations of its layout come to
+pub read_here : (bytes : List ℕ) (layout : Layout) (directory : Range) → layout ≡ layout_of bytes → directory ≡ relocs_of bytes
+    → AreRead (form_in bytes layout) layout.size directory → AreRead (plain_form bytes) (image_size bytes) (relocs_of bytes)
+read_here bytes layout directory is there read =
+    let P : Layout → Type 0 = λ l. AreRead (form_in bytes l) l.size directory in
+    let Q : Range → Type 0 = λ d. AreRead (plain_form bytes) (image_size bytes) d in
+    subst Q there (subst P is read)
+
+pub refused_here : (bytes : List ℕ) (layout : Layout) (directory : Range) → layout ≡ layout_of bytes → directory ≡ relocs_of bytes
+    → AreRefused (form_in bytes layout) layout.size directory → AreRefused (plain_form bytes) (image_size bytes) (relocs_of bytes)
+refused_here bytes layout directory is there refused =
+    let P : Layout → Type 0 = λ l. AreRefused (form_in bytes l) l.size directory in
+    let Q : Range → Type 0 = λ d. AreRefused (plain_form bytes) (image_size bytes) d in
+    subst Q there (subst P is refused)
+
+-- the fault that refused relocations are
+pub has_bad : (bytes : List ℕ) (layout : Layout) (directory : Range) (fault : PeFault) (at : ℕ) → layout ≡ layout_of bytes → directory ≡ relocs_of bytes
+    → first_failing (checks bytes) ≡ None → AreRefused (form_in bytes layout) layout.size directory
+    → fault ≡ record { at = at + 152; kind = Reloc } → at ≡ optional_at bytes → HasBadRelocations bytes fault
+has_bad bytes layout directory fault at is there passes refused told place = record {
+  passes = passes;
+  refused = refused_here bytes layout directory is there refused;
+  at = ap (λ (f : PeFault). f.at) told ∙ ap (λ n. n + 152) place;
+  kind = ap (λ (f : PeFault). f.kind) told;
+}

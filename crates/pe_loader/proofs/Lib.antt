@@ -3,10 +3,12 @@ pub mod Offered
 pub mod HeaderLemmas
 pub mod RangeLemmas
 pub mod SectionLemmas
+pub mod OverlapLemmas
 pub mod FormLemmas
 pub mod BlockLemmas
 pub mod ImageLemmas
 pub mod LoadLemmas
+pub mod ApplyLemmas
 pub mod EntryLemmas
 pub mod LoadedLemmas
 pub mod HomeLemmas

@@ -1,29 +1,17 @@
--- The plain form as it is laid out, and fixups as they are applied.
-use Rattle.std.proofs.Common.{◌≡◌, ◌⊎◌, inl, inr, ℕ, ◌+◌, ◌-◌, ◌*◌, ◌/◌, ◌≤◌, ◌<◌, true, false, cond, ltb, List, [], ◌∷◌, ◌++◌, length, get_or, take, drop, fold, sym, ap, ◌∙◌, subst, arith, below_more}
-use Rattle.std.specs.List.{list_all}
-use Rattle.std.proofs.lemmas.Bool.{cond-true, cond-false, cases_Bool, cases_lt, lt-ltb, le-ltb, and_parts, leb-true}
-use Rattle.std.proofs.lemmas.Bool.Decides.{nat_tests}
+-- The plain form as it is laid out.
+use Rattle.std.proofs.Common.{◌≡◌, ◌⊎◌, inl, inr, ℕ, ◌+◌, ◌-◌, ◌*◌, ◌≤◌, ◌<◌, min, Bool, true, false, cond, ltb, leb, ◌&&◌, List, ◌++◌, length, get_or, take, drop, sym, ap, ◌∙◌, subst, arith, below_more}
+use Rattle.std.proofs.lemmas.Bool.{cond-true, cond-false, cases_Bool, cases_lt, cases_eq, lt-ltb, le-ltb, lt-leb, le-leb, leb-true, and_left, and_right, and_from, and_parts}
 use Rattle.std.proofs.lemmas.List.{length-take-le, length-append, length-drop, get_or_append_left, get_or-append_right, get_or-take, get_or-drop}
 use Rattle.std.proofs.lemmas.List.FromFn.{fill_by_all}
-use Rattle.std.proofs.lemmas.List.Sums.{fold-append}
-use Rattle.mm_base.specs.Numbers.{number_in}
 use Rattle.mm_base.specs.declared.image.Part.{Part}
-use Rattle.mm_base.specs.declared.range.Range.{Range}
-use Rattle.pe_loader.specs.Headers.{part_count, headers_size, image_size, relocs_of}
-use Rattle.pe_loader.specs.Sections.{part_at}
-use Rattle.pe_loader.specs.Forms.{copies_to, plain_byte, plain_form}
-use Rattle.pe_loader.specs.Fixups.{fixup_passes, StaysWithin, fixup_of, fixups_from, Block, block_at, is_block, block_passes, Leads, fixups_in, AreFixups}
-use Rattle.pe_loader.specs.Images.{AreRead}
-use Rattle.pe_loader.specs.Loading.{put, fixed}
-use Rattle.pe_loader.specs.LayoutInside.{IsLaidOut}
-use Rattle.pe_loader.specs.ReadingInside.{IsHead}
-use Rattle.pe_loader.specs.declared.fixup.Fixup.{Fixup}
-use Rattle.pe_loader.specs.declared.fixup_kind.FixupKind.{FixupKind}
-use Rattle.pe_loader.specs.declared.fixup_kind.FixupKind.TheVariants.{Absolute, Unknown}
-use Rattle.pe_loader.specs.declared.relocations.Head.{Head}
+use Rattle.pe_loader.specs.Sections.{part_of, parts_of}
+use Rattle.pe_loader.specs.Forms.{copies_to, plain_byte, form_of}
+use Rattle.pe_loader.specs.Loading.{put}
+use Rattle.pe_loader.specs.LayoutInside.{IsLaidOut, EndBefore, AreInOrder}
+use Rattle.pe_loader.specs.ReadingInside.{byte_of, form_in, Shows, IsReady}
+use Rattle.pe_loader.specs.declared.layout.Layout.{Layout}
+use Rattle.pe_loader.specs.declared.window.Window.{Window}
 use Rattle.pe_loader.proofs.FormLemmas.{copied_within, plain_of_headers, plain_of_part, plain_of_none}
-use Rattle.pe_loader.proofs.BlockLemmas.{fixups_from-more}
-use Rattle.pe_loader.proofs.ImageLemmas.{one_list}
 
 -- ---- bytes that were put somewhere
 
@@ -52,181 +40,183 @@ put_behind xs bs at place behind room =
     ∙ get_or-drop (at + length bs) xs (place - (at + length bs)) 0
     ∙ ap (λ k. get_or xs k 0) there
 
--- ---- sections that are copied
+-- ---- where a section copies nothing
 
--- a section's bytes, put where it lies
-pub copied_part : (bytes old new : List ℕ) (part : Part) (n place : ℕ) → n ≡ part.copied → part.raw + part.copied ≤ length bytes
-    → part.at + part.copied ≤ length old → new ≡ put old part.at (take n (drop part.raw bytes))
-    → get_or new place 0 ≡ cond (copies_to place part) (get_or bytes (part.raw + (place - part.at)) 0) (get_or old place 0)
-copied_part bytes old new part n place is file room put_there =
-    let bs : List ℕ = take n (drop part.raw bytes) in
-    let long : length bs ≡ n = length-take-le n (drop part.raw bytes) (omega (arith, length-drop part.raw bytes)) in
-    let there = ap (λ (xs : List ℕ). get_or xs place 0) put_there in
-    elim (cases_Bool (copies_to place part)) [
-      | inl here ↦
-          let low : part.at ≤ place = grind (arith, nat_tests) in
-          let high : place < part.at + part.copied = grind (arith, nat_tests) in
+copies_behind : (part : Part) (place : ℕ) → place < part.at → copies_to place part ≡ false
+copies_behind part place h = and_left _ _ (lt-leb part.at place h)
+
+copies_in_front : (part : Part) (place : ℕ) → part.at + part.copied ≤ place → copies_to place part ≡ false
+copies_in_front part place h = and_right _ _ (le-ltb place (part.at + part.copied) h)
+
+copies_there : (part : Part) (place : ℕ) → part.at ≤ place → place < part.at + part.copied → copies_to place part ≡ true
+copies_there part place low high = and_from _ _ (le-leb part.at place low) (lt-ltb place (part.at + part.copied) high)
+
+-- ---- what is laid out in a room that begins at a place
+
+-- the headers
+pub headers_there : (bytes old new : List ℕ) (headers begin count place : ℕ) → ((d : ℕ) → get_or old d 0 ≡ 0) → headers ≤ length bytes
+    → count ≡ min (length old) (headers - begin) → new ≡ put old 0 (take count (drop begin bytes)) → place < length old
+    → get_or new place 0 ≡ cond (ltb (begin + place) headers) (get_or bytes (begin + place) 0) 0
+headers_there bytes old new headers begin count place zero file is laid h =
+    let bs : List ℕ = take count (drop begin bytes) in
+    let there = ap (λ (xs : List ℕ). get_or xs place 0) laid in
+    elim (cases_lt (begin + place) headers) [
+      | inl low ↦
+          let first : place - 0 ≡ place = omega arith in
+          let long : length bs ≡ count = length-take-le count (drop begin bytes) (omega (arith, length-drop begin bytes)) in
           there
-          ∙ put_inside old bs part.at place low (omega arith) (omega arith)
-          ∙ get_or-take n (drop part.raw bytes) (place - part.at) 0 (omega arith)
-          ∙ get_or-drop part.raw bytes (place - part.at) 0
-          ∙ sym (cond-true (copies_to place part) _ _ here)
-      | inr elsewhere ↦ elim (cases_lt place part.at) [
-        | inl below ↦ there ∙ put_below old bs part.at place below (omega arith) ∙ sym (cond-false (copies_to place part) _ _ elsewhere)
-        | inr from ↦
-            let behind : part.at + part.copied ≤ place = grind (arith, nat_tests) in
-            there ∙ put_behind old bs part.at place (omega arith) (omega arith) ∙ sym (cond-false (copies_to place part) _ _ elsewhere)
+          ∙ put_inside old bs 0 place (omega arith) (omega arith) (omega arith)
+          ∙ ap (λ d. get_or bs d 0) first
+          ∙ get_or-take count (drop begin bytes) place 0 (omega arith)
+          ∙ get_or-drop begin bytes place 0
+          ∙ sym (cond-true _ _ _ (lt-ltb (begin + place) headers low))
+      | inr behind ↦
+          let long : length bs ≡ count = length-take-le count (drop begin bytes) (omega (arith, length-drop begin bytes)) in
+          there
+          ∙ put_behind old bs 0 place (omega arith) (omega arith)
+          ∙ zero place
+          ∙ sym (cond-false _ _ _ (le-ltb (begin + place) headers behind))
+    ]
+
+pub no_headers_there : (bytes room : List ℕ) (headers begin place : ℕ) → ((d : ℕ) → get_or room d 0 ≡ 0) → min (length room) (headers - begin) ≡ 0
+    → place < length room → get_or room place 0 ≡ cond (ltb (begin + place) headers) (get_or bytes (begin + place) 0) 0
+no_headers_there bytes room headers begin place zero none h = zero place ∙ sym (cond-false _ _ _ (le-ltb (begin + place) headers (omega arith)))
+
+-- what of a section's bytes lies there
+module _ (bytes old new : List ℕ) (part : Part) (begin raw from to place : ℕ) (starts : from ≡ min (length old) (part.at - begin))
+    (stops : to ≡ min (length old) (part.at + part.copied - begin)) where
+  pub part_there : (n : ℕ) → new ≡ put old from (take n (drop raw bytes)) → place < length old → n ≡ to - from → from < to
+      → raw ≡ part.raw + (begin + from - part.at) → part.raw + part.copied ≤ length bytes
+      → get_or new place 0 ≡ cond (copies_to (begin + place) part) (get_or bytes (part.raw + (begin + place - part.at)) 0) (get_or old place 0)
+  part_there n laid h much some is file =
+      let bs : List ℕ = take n (drop raw bytes) in
+      let long : length bs ≡ n = length-take-le n (drop raw bytes) (omega (arith, length-drop raw bytes)) in
+      let there = ap (λ (xs : List ℕ). get_or xs place 0) laid in
+      elim (cases_lt place from) [
+        | inl below ↦
+            let elsewhere = copies_behind part (begin + place) (omega arith) in
+            there ∙ put_below old bs from place below (omega arith) ∙ sym (cond-false (copies_to (begin + place) part) _ _ elsewhere)
+        | inr low ↦ elim (cases_lt place to) [
+          | inl high ↦
+              let here = copies_there part (begin + place) (omega arith) (omega arith) in
+              let same : raw + (place - from) ≡ part.raw + (begin + place - part.at) = omega arith in
+              there
+              ∙ put_inside old bs from place low (omega arith) (omega arith)
+              ∙ get_or-take n (drop raw bytes) (place - from) 0 (omega arith)
+              ∙ get_or-drop raw bytes (place - from) 0
+              ∙ ap (λ d. get_or bytes d 0) same
+              ∙ sym (cond-true (copies_to (begin + place) part) _ _ here)
+          | inr behind ↦
+              let elsewhere = copies_in_front part (begin + place) (omega arith) in
+              there ∙ put_behind old bs from place (omega arith) (omega arith) ∙ sym (cond-false (copies_to (begin + place) part) _ _ elsewhere)
+        ]
       ]
-    ]
 
--- a place behind the headers where none of the first few sections copies anything, and which is 0
-pub record IsLeft (bytes : List ℕ) (count : ℕ) (out : List ℕ) (place : ℕ) : Type 0 where
-  pub zero : get_or out place 0 ≡ 0
-  pub behind : headers_size bytes ≤ place
-  pub nothing : (j : ℕ) → j < count → copies_to place (part_at bytes j) ≡ false
+  pub part_not_there : to ≤ from → new ≡ old → place < length old
+      → get_or new place 0 ≡ cond (copies_to (begin + place) part) (get_or bytes (part.raw + (begin + place - part.at)) 0) (get_or old place 0)
+  part_not_there none same h =
+      let elsewhere : copies_to (begin + place) part ≡ false =
+      elim (cases_lt (begin + place) part.at) [
+        | inl below ↦ copies_behind part (begin + place) below
+        | inr low ↦ copies_in_front part (begin + place) (omega arith)
+      ] in
+      ap (λ (xs : List ℕ). get_or xs place 0) same ∙ sym (cond-false (copies_to (begin + place) part) _ _ elsewhere)
 
--- With the headers and the first few sections copied, a place is as in the plain form, or left.
-abbrev pub Laid : List ℕ → ℕ → List ℕ → ℕ → Type 0
-Laid bytes count out place = (get_or out place 0 ≡ plain_byte bytes place) ⊎ IsLeft bytes count out place
+module _ (bytes : List ℕ) (layout : Layout) where
+  -- a byte that is 0, at a place behind the headers to which none of the first few sections copies anything
+  pub record IsLeft (count value place : ℕ) : Type 0 where
+    pub zero : value ≡ 0
+    pub behind : layout.headers ≤ place
+    pub nothing : (j : ℕ) → j < count → copies_to place (part_of bytes layout j) ≡ false
 
-pub laid_headers : (bytes out : List ℕ) (place : ℕ) → get_or out place 0 ≡ cond (ltb place (headers_size bytes)) (get_or bytes place 0) 0
-    → Laid bytes 0 out place
-laid_headers bytes out place is =
-    elim (cases_lt place (headers_size bytes)) [
-      | inl below ↦ inl (is ∙ cond-true _ _ _ (lt-ltb _ _ below) ∙ sym (plain_of_headers bytes place below))
-      | inr behind ↦ inr (record { zero = is ∙ cond-false _ _ _ (le-ltb _ _ behind); behind = behind; nothing = λ j h. absurd (omega arith) })
-    ]
+  -- With the headers and the first few sections copied, the byte at a place is that of the plain form, or left.
+  abbrev pub Laid : ℕ → ℕ → ℕ → Type 0
+  Laid count value place = (value ≡ byte_of bytes layout place) ⊎ IsLeft count value place
 
-pub laid_more : (bytes old new : List ℕ) (k place : ℕ) → IsLaidOut bytes → k < part_count bytes → Laid bytes k old place
-    → get_or new place 0 ≡ cond (copies_to place (part_at bytes k)) (get_or bytes ((part_at bytes k).raw + (place - (part_at bytes k).at)) 0) (get_or old place 0)
-    → Laid bytes (k + 1) new place
-laid_more bytes old new k place laid h before is =
-    elim (cases_Bool (copies_to place (part_at bytes k))) [
-      | inl here ↦ inl (is ∙ cond-true (copies_to place (part_at bytes k)) _ _ here ∙ sym (plain_of_part bytes k place laid h here))
-      | inr elsewhere ↦
-          let same : get_or new place 0 ≡ get_or old place 0 = is ∙ cond-false (copies_to place (part_at bytes k)) _ _ elsewhere in
-          elim before [
-            | inl plain ↦ inl (same ∙ plain)
-            | inr left ↦ inr (record {
-              zero = same ∙ left.zero;
-              behind = left.behind;
-              nothing = below_more (λ j. copies_to place (part_at bytes j) ≡ false) k left.nothing elsewhere;
-            })
-          ]
-    ]
+  abbrev pub LaidIn : ℕ → ℕ → List ℕ → Type 0
+  LaidIn count begin room = (place : ℕ) → place < length room → Laid count (get_or room place 0) (begin + place)
 
-pub laid_all : (bytes out : List ℕ) (count : ℕ) → part_count bytes ≤ count → length out ≡ image_size bytes
-    → ((place : ℕ) → place < image_size bytes → Laid bytes count out place) → out ≡ plain_form bytes
-unfolding plain_form
-laid_all bytes out count all long laid =
-    fill_by_all (plain_byte bytes) out (image_size bytes) 0 long (λ place h.
-    elim (laid place h) [
-      | inl plain ↦ plain
-      | inr left ↦ left.zero ∙ sym (plain_of_none bytes place left.behind (λ j g. left.nothing j (omega arith)))
-    ])
+  -- the headers, where the first few sections have ended
+  pub laid_headers : (count begin : ℕ) (room : List ℕ) → IsLaidOut bytes layout → count ≤ layout.count → EndBefore bytes layout count begin
+      → ((place : ℕ) → place < length room → get_or room place 0 ≡ cond (ltb (begin + place) layout.headers) (get_or bytes (begin + place) 0) 0)
+      → LaidIn count begin room
+  laid_headers count begin room laid few ended is place h =
+      elim (cases_lt (begin + place) layout.headers) [
+        | inl low ↦ inl (is place h ∙ cond-true _ _ _ (lt-ltb _ _ low) ∙ sym (plain_of_headers bytes layout (begin + place) low))
+        | inr behind ↦ inr (record {
+          zero = is place h ∙ cond-false _ _ _ (le-ltb _ _ behind);
+          behind = behind;
+          nothing = λ j less.
+              let before = ended j less in
+              let small = copied_within bytes (layout.table + 40 * j) in
+              copies_in_front (part_of bytes layout j) (begin + place) (omega arith);
+        })
+      ]
 
--- what a section copies lies in the image
-pub copy_in_image : (bytes : List ℕ) (k : ℕ) → IsLaidOut bytes → k < part_count bytes → (part_at bytes k).at + (part_at bytes k).copied ≤ image_size bytes
-copy_in_image bytes k laid h = omega (arith, (laid.each k h).to, copied_within bytes k)
+  pub laid_more : (count begin : ℕ) (old new : List ℕ) → IsLaidOut bytes layout → count < layout.count → length new ≡ length old → LaidIn count begin old
+      → ((place : ℕ) → place < length old → get_or new place 0
+      ≡ cond (copies_to (begin + place) (part_of bytes layout count))
+      (get_or bytes ((part_of bytes layout count).raw + (begin + place - (part_of bytes layout count).at)) 0) (get_or old place 0))
+      → LaidIn (count + 1) begin new
+  laid_more count begin old new laid h long before is place less =
+      let at : ℕ = begin + place in
+      let here : get_or new place 0 ≡ cond (copies_to at (part_of bytes layout count))
+      (get_or bytes ((part_of bytes layout count).raw + (at - (part_of bytes layout count).at)) 0) (get_or old place 0) = is place (omega arith) in
+      elim (cases_Bool (copies_to at (part_of bytes layout count))) [
+        | inl copied ↦ inl (here ∙ cond-true (copies_to at (part_of bytes layout count)) _ _ copied ∙ sym (plain_of_part bytes layout count at laid h copied))
+        | inr elsewhere ↦
+            let same : get_or new place 0 ≡ get_or old place 0 = here ∙ cond-false (copies_to at (part_of bytes layout count)) _ _ elsewhere in
+            elim (before place (omega arith)) [
+              | inl plain ↦ inl (same ∙ plain)
+              | inr left ↦ inr (record {
+                zero = same ∙ left.zero;
+                behind = left.behind;
+                nothing = below_more (λ j. copies_to at (part_of bytes layout j) ≡ false) count left.nothing elsewhere;
+              })
+            ]
+      ]
 
--- ---- fixups that are applied
+  -- where the sections that are left copy nothing there, all is laid out
+  shown : (count begin : ℕ) (room : List ℕ) → LaidIn count begin room
+      → ((j place : ℕ) → count ≤ j → j < layout.count → place < length room → copies_to (begin + place) (part_of bytes layout j) ≡ false)
+      → Shows bytes layout begin room
+  shown count begin room laid none place h =
+      elim (laid place h) [
+        | inl plain ↦ plain
+        | inr left ↦
+            let all : (j : ℕ) → j < layout.count → copies_to (begin + place) (part_of bytes layout j) ≡ false =
+            λ j less. elim (cases_lt j count) [ inl low ↦ left.nothing j low | inr high ↦ none j place high less h ] in
+            left.zero ∙ sym (plain_of_none bytes layout (begin + place) left.behind all)
+      ]
 
-stays_of : (size : ℕ) (directory : Range) (kind : FixupKind) (at : ℕ) → fixup_passes size directory (record { kind = kind; at = at }) ≡ true
-    → StaysWithin size (record { kind = kind; at = at })
-stays_of size directory Absolute at passes = tt
-stays_of size directory Unknown at passes = cc
-stays_of size directory _ at passes = leb-true _ _ (and_parts _ _ passes).0
+  pub shown_all : (count begin : ℕ) (room : List ℕ) → layout.count ≤ count → LaidIn count begin room → Shows bytes layout begin room
+  shown_all count begin room all laid = shown count begin room laid (λ j place low high h. absurd (omega arith))
 
--- one that passes stays in the image
-pub stays_within : (size : ℕ) (directory : Range) (fixup : Fixup) → fixup_passes size directory fixup ≡ true → StaysWithin size fixup
-stays_within size directory fixup passes = stays_of size directory fixup.kind fixup.at passes
+  -- in order, the next one and all later ones begin behind the room
+  pub shown_in_order : (count begin : ℕ) (room : List ℕ) (ordered : Bool) → (ordered ≡ true → AreInOrder bytes layout) → count < layout.count → LaidIn count begin room
+      → (ordered && leb (length room) ((part_of bytes layout count).at - begin)) ≡ true → Shows bytes layout begin room
+  shown_in_order count begin room ordered order h laid is =
+      let both = and_parts ordered (leb (length room) ((part_of bytes layout count).at - begin)) is in
+      let far : length room ≤ (part_of bytes layout count).at - begin = leb-true _ _ both.1 in
+      shown count begin room laid (λ j place low high less.
+      let behind : begin + place < (part_of bytes layout j).at =
+      elim (cases_eq j count) [
+        | inl e ↦ let P : ℕ → Type 0 = λ k. begin + place < (part_of bytes layout k).at in subst P (sym e) (omega arith)
+        | inr ne ↦ let before = order both.0 count j (omega arith) high in omega arith
+      ] in
+      copies_behind (part_of bytes layout j) (begin + place) behind)
 
--- the next of those that are left
-pub apply_more : (by : ℕ) (form out new : List ℕ) (page at n k word : ℕ) (fixup : Fixup) → k < n → word ≡ number_in form (at + 2 * k) 2 → fixup ≡ fixup_of page word
-    → new ≡ fixed by out fixup
-    → fold (fixed by) new (fixups_from form page (at + 2 * (k + 1)) (n - (k + 1))) ≡ fold (fixed by) out (fixups_from form page (at + 2 * k) (n - k))
-apply_more by form out new page at n k word fixup h is there now =
-    let same : fixup ≡ fixup_of page (number_in form (at + 2 * k) 2) = there ∙ ap (fixup_of page) is in
-    ap (λ (xs : List ℕ). fold (fixed by) xs (fixups_from form page (at + 2 * (k + 1)) (n - (k + 1)))) (now ∙ ap (fixed by out) same)
-    ∙ sym (ap (fold (fixed by) out) (fixups_from-more form page at n k h))
+  -- the whole form
+  pub form_shown : (out : List ℕ) → length out ≡ layout.size → Shows bytes layout 0 out → out ≡ form_in bytes layout
+  unfolding form_of
+  form_shown out long shows =
+      fill_by_all (plain_byte bytes layout.headers (parts_of bytes layout)) out layout.size 0 long (λ place h.
+      let there : 0 + place ≡ place = omega arith in
+      let P : ℕ → Type 0 = λ n. get_or out place 0 ≡ plain_byte bytes layout.headers (parts_of bytes layout) n in
+      subst P there (shows place (omega arith)))
 
--- ---- blocks that are left
+  -- ---- a window
 
--- Blocks lead from a place to where they end, and applying their fixups to a form makes of it what all fixups make of another.
-pub record Rest (bytes : List ℕ) (by at : ℕ) (out start : List ℕ) : Type 0 where
-  pub blocks : List Block
-  pub end : ℕ
-  pub leads : Leads bytes at blocks end
-  pub ends : is_block bytes end ≡ false
-  pub gives : (fixups : List Fixup) → AreFixups bytes fixups → fold (fixed by) out (fixups_in blocks) ≡ fold (fixed by) start fixups
-
-pub rest_all : (bytes : List ℕ) (by at : ℕ) (out : List ℕ) → AreRead bytes → at ≡ (relocs_of bytes).base → Rest bytes by at out out
-rest_all bytes by at out read is =
-    let are = read.1 in
-    let P : ℕ → Type 0 = λ place. Leads bytes place are.blocks are.end in
-    record {
-      blocks = are.blocks;
-      end = are.end;
-      leads = subst P (sym is) are.leads;
-      ends = are.ends;
-      gives = λ fixups other. ap (fold (fixed by) out) (sym are.are ∙ one_list bytes read.0 fixups are other);
-    }
-
--- a block that is there passes, and the others are left behind it
-pub record RestMore (bytes : List ℕ) (by at : ℕ) (out start : List ℕ) : Type 0 where
-  pub passes : block_passes bytes at ≡ true
-  pub more : (new : List ℕ) → new ≡ fold (fixed by) out (block_at bytes at).fixups → Rest bytes by (at + (block_at bytes at).size) new start
-
-rest_cases : (bytes : List ℕ) (by at : ℕ) (out start : List ℕ) (blocks : List Block) (end : ℕ) → Leads bytes at blocks end → is_block bytes end ≡ false
-    → ((fixups : List Fixup) → AreFixups bytes fixups → fold (fixed by) out (fixups_in blocks) ≡ fold (fixed by) start fixups)
-    → is_block bytes at ≡ true → RestMore bytes by at out start
-rest_cases bytes by at out start [] end leads ends gives there =
-    let P : ℕ → Type 0 = λ place. is_block bytes place ≡ false in
-    let none = subst P (sym leads) ends in
-    let wrong : true ≡ false = sym there ∙ none in
-    cc
-rest_cases bytes by at out start (block ∷ blocks) end leads ends gives there = record {
-  passes = leads.0.passes;
-  more = λ new is.
-      let P : Block → Type 0 = λ b. Leads bytes (at + b.size) blocks end in
-      record {
-        blocks = blocks;
-        end = end;
-        leads = subst P leads.0.is leads.1;
-        ends = ends;
-        gives = λ fixups are.
-            ap (λ (xs : List ℕ). fold (fixed by) xs (fixups_in blocks)) (is ∙ ap (λ (b : Block). fold (fixed by) out b.fixups) (sym leads.0.is))
-            ∙ sym (fold-append (fixed by) out block.fixups (fixups_in blocks))
-            ∙ gives fixups are;
-      };
-}
-
-pub rest_more : (bytes : List ℕ) (by at : ℕ) (out start : List ℕ) → Rest bytes by at out start → is_block bytes at ≡ true → RestMore bytes by at out start
-rest_more bytes by at out start rest there = rest_cases bytes by at out start rest.blocks rest.end rest.leads rest.ends rest.gives there
-
--- where there is none, all fixups are applied
-end_cases : (bytes : List ℕ) (by at : ℕ) (out start : List ℕ) (blocks : List Block) (end : ℕ) → Leads bytes at blocks end
-    → ((fixups : List Fixup) → AreFixups bytes fixups → fold (fixed by) out (fixups_in blocks) ≡ fold (fixed by) start fixups)
-    → is_block bytes at ≡ false → (fixups : List Fixup) → AreFixups bytes fixups → out ≡ fold (fixed by) start fixups
-end_cases bytes by at out start [] end leads gives none fixups are = gives fixups are
-end_cases bytes by at out start (block ∷ blocks) end leads gives none fixups are =
-    let there = leads.0.there in
-    let wrong : true ≡ false = sym there ∙ none in
-    cc
-
-pub rest_ends : (bytes : List ℕ) (by at : ℕ) (out start : List ℕ) → Rest bytes by at out start → is_block bytes at ≡ false
-    → (fixups : List Fixup) → AreFixups bytes fixups → out ≡ fold (fixed by) start fixups
-rest_ends bytes by at out start rest none = end_cases bytes by at out start rest.blocks rest.end rest.leads rest.gives none
-
--- the fixups of a block, by its head, and that they pass
-pub fixups_by_head : (bytes : List ℕ) (at : ℕ) (head : Head) → IsHead bytes at head
-    → (block_at bytes at).fixups ≡ fixups_from (plain_form bytes) head.page (at + 8) ((head.size - 8) / 2)
-unfolding block_at
-fixups_by_head bytes at head is =
-    ap (λ page. fixups_from (plain_form bytes) page (at + 8) ((number_in (plain_form bytes) (at + 4) 4 - 8) / 2)) (sym is.page)
-    ∙ ap (λ size. fixups_from (plain_form bytes) head.page (at + 8) ((size - 8) / 2)) (sym is.size)
-
-pub fixups_pass : (bytes : List ℕ) (at : ℕ) → block_passes bytes at ≡ true
-    → list_all (fixup_passes (image_size bytes) (relocs_of bytes)) (block_at bytes at).fixups ≡ true
-unfolding block_passes
-fixups_pass bytes at passes = (and_parts _ _ passes).1
+  pub ready_later : (window : Window) (room : List ℕ) (at later : ℕ) → at ≤ later → IsReady bytes layout window room at → IsReady bytes layout window room later
+  ready_later window room at later h ready =
+      record { knows = ready.knows; begun = let e = ready.begun in omega arith; some = ready.some; shows = ready.shows }

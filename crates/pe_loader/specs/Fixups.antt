@@ -1,12 +1,12 @@
 -- The relocations of an image: PE32+ as UEFI images use it. The directory has blocks one behind another; a block has the address of a
--- page, its own size, and an entry of two bytes for each fixup. They are read from the plain form.
-use Rattle.std.specs.Prelude.{◌≡◌, ℕ, zero, suc, ◌+◌, ◌-◌, ◌/◌, ◌%◌, ◌≤◌, Bool, true, false, if◌then◌else◌, ◌==◌, ◌&&◌, not, nat_le, List, [], ◌∷◌}
+-- page, its own size, and an entry of two bytes for each fixup. All is said of a form, which is what an image has in memory before any
+-- fixup, of its size, and of the directory.
+use Rattle.std.specs.Prelude.{◌≡◌, ◌⊎◌, ℕ, zero, suc, ◌+◌, ◌-◌, ◌/◌, ◌%◌, ◌≤◌, Bool, true, false, if◌then◌else◌, ◌==◌, ◌&&◌, not, nat_le, List, [], ◌∷◌}
 use Rattle.std.specs.List.{list_all, flat_map}
+use Rattle.courses.specs.Courses.{Leads}
 use Rattle.mm_base.specs.Numbers.{number_in}
 use Rattle.mm_base.specs.Range.{share_a_unit}
 use Rattle.mm_base.specs.declared.range.Range.{Range}
-use Rattle.pe_loader.specs.Headers.{image_size, relocs_of}
-use Rattle.pe_loader.specs.Forms.{plain_form}
 use Rattle.pe_loader.specs.declared.fixup.Fixup.{Fixup}
 use Rattle.pe_loader.specs.declared.fixup_kind.FixupKind.{FixupKind}
 use Rattle.pe_loader.specs.declared.fixup_kind.FixupKind.TheVariants.{Absolute, High, Low, HighLow, Dir64, Unknown}
@@ -63,63 +63,71 @@ pub record Block : Type 0 where
   pub size : ℕ
   pub fixups : List Fixup
 
--- the block at a place
+-- the block at a place of a form
 unfoldable pub block_at : List ℕ → ℕ → Block
-block_at bytes at =
-    let page = number_in (plain_form bytes) at 4 in
-    let size = number_in (plain_form bytes) (at + 4) 4 in
-    record { page = page; size = size; fixups = fixups_from (plain_form bytes) page (at + 8) ((size - 8) / 2) }
+block_at form at =
+    let page = number_in form at 4 in
+    let size = number_in form (at + 4) 4 in
+    record { page = page; size = size; fixups = fixups_from form page (at + 8) ((size - 8) / 2) }
 
--- where the directory ends
-abbrev pub directory_end : List ℕ → ℕ
-directory_end bytes = (relocs_of bytes).base + (relocs_of bytes).length
+-- where a directory ends
+abbrev pub directory_end : Range → ℕ
+directory_end directory = directory.base + directory.length
 
--- whether the directory lies in the image
-abbrev pub directory_fits : List ℕ → Bool
-directory_fits bytes = nat_le (directory_end bytes) (image_size bytes)
+-- whether a directory lies in an image of this size
+abbrev pub directory_fits : ℕ → Range → Bool
+directory_fits size directory = nat_le (directory_end directory) size
 
 -- whether there is a block at a place: blocks end where fewer than 8 bytes are left, or one's size is 0
-unfoldable pub is_block : List ℕ → ℕ → Bool
-is_block bytes at = nat_le (at + 8) (directory_end bytes) && not ((block_at bytes at).size == 0)
+unfoldable pub is_block : List ℕ → Range → ℕ → Bool
+is_block form directory at = nat_le (at + 8) (directory_end directory) && not ((block_at form at).size == 0)
 
 -- whether the block at a place passes: it has at least its two numbers, an even size that doesn't lead past the directory, and
 -- fixups that pass
-unfoldable pub block_passes : List ℕ → ℕ → Bool
-block_passes bytes at =
-    let block = block_at bytes at in
+unfoldable pub block_passes : List ℕ → ℕ → Range → ℕ → Bool
+block_passes form size directory at =
+    let block = block_at form at in
     nat_le 8 block.size
     && (block.size % 2 == 0)
-    && nat_le (at + block.size) (directory_end bytes)
-    && list_all (fixup_passes (image_size bytes) (relocs_of bytes)) block.fixups
+    && nat_le (at + block.size) (directory_end directory)
+    && list_all (fixup_passes size directory) block.fixups
 
 -- there is this block at a place, and it passes
-pub record IsBlockAt (bytes : List ℕ) (at : ℕ) (block : Block) : Type 0 where
-  pub there : is_block bytes at ≡ true
-  pub is : block ≡ block_at bytes at
-  pub passes : block_passes bytes at ≡ true
+pub record IsBlockAt (form : List ℕ) (size : ℕ) (directory : Range) (at : ℕ) (block : Block) : Type 0 where
+  pub there : is_block form directory at ≡ true
+  pub is : block ≡ block_at form at
+  pub passes : block_passes form size directory at ≡ true
 
 -- Blocks that pass stand one behind another from a place on, and lead to another one.
-abbrev pub Leads : List ℕ → ℕ → List Block → ℕ → Type 0
-Leads bytes at [] to = at ≡ to
-Leads bytes at (block ∷ blocks) to = IsBlockAt bytes at block × Leads bytes (at + block.size) blocks to
+abbrev pub BlocksLead : List ℕ → ℕ → Range → ℕ → List Block → ℕ → Type 0
+BlocksLead form size directory at blocks to = Leads (IsBlockAt form size directory) (λ place block. place + block.size) at blocks to
 
 -- the fixups of blocks, in order
 abbrev pub fixups_in : List Block → List Fixup
 fixups_in blocks = flat_map (λ (block : Block). block.fixups) blocks
 
 -- The relocations are these fixups: the directory lies in the image, and blocks lead from its begin to where they end.
-pub record AreFixups (bytes : List ℕ) (fixups : List Fixup) : Type 0 where
-  pub fits : directory_fits bytes ≡ true
+pub record AreFixups (form : List ℕ) (size : ℕ) (directory : Range) (fixups : List Fixup) : Type 0 where
+  pub fits : directory_fits size directory ≡ true
   pub blocks : List Block
   pub end : ℕ
-  pub leads : Leads bytes (relocs_of bytes).base blocks end
-  pub ends : is_block bytes end ≡ false
+  pub leads : BlocksLead form size directory directory.base blocks end
+  pub ends : is_block form directory end ≡ false
   pub are : fixups ≡ fixups_in blocks
 
 -- blocks lead from the directory's begin to one that doesn't pass
-pub record LeadsToBad (bytes : List ℕ) : Type 0 where
+pub record LeadsToBad (form : List ℕ) (size : ℕ) (directory : Range) : Type 0 where
   pub blocks : List Block
   pub at : ℕ
-  pub leads : Leads bytes (relocs_of bytes).base blocks at
-  pub there : is_block bytes at ≡ true
-  pub bad : block_passes bytes at ≡ false
+  pub leads : BlocksLead form size directory directory.base blocks at
+  pub there : is_block form directory at ≡ true
+  pub bad : block_passes form size directory at ≡ false
+
+-- The relocations are read as some fixups.
+abbrev pub AreRead : List ℕ → ℕ → Range → Type 0
+AreRead form size directory = (fixups : List Fixup) × AreFixups form size directory fixups
+
+-- The relocations are refused: the directory leaves the image, or leads to a block that doesn't pass.
+abbrev pub AreRefused : List ℕ → ℕ → Range → Type 0
+AreRefused form size directory =
+    (directory_fits size directory ≡ false) ⊎ ((directory_fits size directory ≡ true) × LeadsToBad form size directory)

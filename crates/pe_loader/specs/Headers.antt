@@ -1,9 +1,10 @@
 -- The headers of an image: PE32+ as UEFI images use it. A DOS header leads to the PE signature, the COFF file header follows it, and
 -- then the optional header and the section table. All numbers stand with the lowest byte first. The order in which they are checked is
 -- this project's own.
-use Rattle.std.specs.Prelude.{◌≡◌, ℕ, ◌+◌, ◌*◌, Bool, if◌then◌else◌, ◌==◌, ◌&&◌, ◌||◌, not, nat_le, nat_lt, List, [], ◌∷◌, length, take, drop, Some, codes}
+use Rattle.std.specs.Prelude.{ℕ, ◌+◌, ◌*◌, Bool, if◌then◌else◌, ◌==◌, ◌&&◌, ◌||◌, not, nat_le, nat_lt, List, [], ◌∷◌, length, take, drop, codes}
 use Rattle.std.specs.Str.{bytes_eq}
-use Rattle.mm_base.specs.Checks.{Check, first_failing}
+use Rattle.courses.specs.FirstCheck.{FailsFirst as IsFirstFailing}
+use Rattle.mm_base.specs.Checks.{Check}
 use Rattle.mm_base.specs.Numbers.{number_in}
 use Rattle.mm_base.specs.declared.image.PeFault.{PeFault}
 use Rattle.mm_base.specs.declared.image.PeKind.{PeKind}
@@ -96,9 +97,6 @@ header_checks bytes =
     ∷ record { kind = Headers; at = optional_at bytes + 60; passes = headers_fit bytes }
     ∷ []
 
--- the first of these checks that fails is the fault
-pub record FailsFirst (checks : List (Check PeKind)) (fault : PeFault) : Type 0 where
-  pub check : Check PeKind
-  pub first : first_failing checks ≡ Some check
-  pub at : fault.at ≡ check.at
-  pub kind : fault.kind ≡ check.kind
+-- The first of these checks that fails is the fault.
+abbrev pub FailsFirst : List (Check PeKind) → PeFault → Type 0
+FailsFirst checks fault = IsFirstFailing checks fault.kind fault.at

@@ -75,9 +75,9 @@ EntryIsWithin =
 -- A section shares a byte with one of the first n exactly where there is an earlier one, and a byte that lies in both.
 abbrev pub OverlapIsAByte : Type 0
 OverlapIsAByte =
-    (bytes : List ℕ) (part : Part) (n : ℕ)
-    → (overlaps_first bytes part n ≡ true)
-    ↔ ((k : ℕ) × ((k < n) × ((place : ℕ) × (Has (range_of (part_at bytes k)) place × Has (range_of part) place))))
+    (nth : ℕ → Part) (part : Part) (n : ℕ)
+    → (overlaps_first nth part n ≡ true)
+    ↔ ((k : ℕ) × ((k < n) × ((place : ℕ) × (Has (range_of (nth k)) place × Has (range_of part) place))))
 
 -- a byte that a section copies is that of the file, in the plain form
 abbrev pub CopiesAreTheFile : Type 0

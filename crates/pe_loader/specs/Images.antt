@@ -1,12 +1,13 @@
 -- What an image is, and what bytes are refused for that are none.
-use Rattle.std.specs.Prelude.{◌≡◌, ◌⊎◌, ℕ, ◌+◌, true, false, List, None}
+use Rattle.std.specs.Prelude.{◌≡◌, ◌⊎◌, ℕ, ◌+◌, List, None}
 use Rattle.mm_base.specs.Checks.{first_failing}
 use Rattle.mm_base.specs.declared.image.Image.{Image}
 use Rattle.mm_base.specs.declared.image.PeFault.{PeFault}
 use Rattle.mm_base.specs.declared.image.PeKind.TheVariants.{Reloc}
 use Rattle.pe_loader.specs.Headers.{optional_at, machine_of, entry_of, base_of, image_size, headers_size, part_count, table_at, relocs_of, FailsFirst}
 use Rattle.pe_loader.specs.Sections.{checks}
-use Rattle.pe_loader.specs.Fixups.{directory_fits, AreFixups, LeadsToBad}
+use Rattle.pe_loader.specs.Forms.{plain_form}
+use Rattle.pe_loader.specs.Fixups.{AreFixups, AreRefused}
 use Rattle.pe_loader.specs.declared.fixup.Fixup.{Fixup}
 
 -- what the headers say
@@ -22,28 +23,24 @@ image_of bytes = record {
   relocs = relocs_of bytes;
 }
 
+-- The relocations of an image are these fixups.
+abbrev pub AreRelocations : List ℕ → List Fixup → Type 0
+AreRelocations bytes fixups = AreFixups (plain_form bytes) (image_size bytes) (relocs_of bytes) fixups
+
 -- The bytes are this image, with these fixups: all checks pass, its headers say so, and the relocations are these.
 pub record IsImage (bytes : List ℕ) (image : Image) (fixups : List Fixup) : Type 0 where
   pub passes : first_failing (checks bytes) ≡ None
   pub says : image ≡ image_of bytes
-  pub relocations : AreFixups bytes fixups
+  pub relocations : AreRelocations bytes fixups
 
 -- The bytes are this image, with some fixups.
 abbrev pub IsImageOf : List ℕ → Image → Type 0
 IsImageOf bytes image = (fixups : List Fixup) × IsImage bytes image fixups
 
--- The relocations are read as some fixups.
-abbrev pub AreRead : List ℕ → Type 0
-AreRead bytes = (fixups : List Fixup) × AreFixups bytes fixups
-
--- the relocations are refused: the directory leaves the image, or leads to a block that doesn't pass
-abbrev pub AreRefused : List ℕ → Type 0
-AreRefused bytes = (directory_fits bytes ≡ false) ⊎ ((directory_fits bytes ≡ true) × LeadsToBad bytes)
-
 -- all checks pass, and the relocations are refused; the fault names their directory
 pub record HasBadRelocations (bytes : List ℕ) (fault : PeFault) : Type 0 where
   pub passes : first_failing (checks bytes) ≡ None
-  pub refused : AreRefused bytes
+  pub refused : AreRefused (plain_form bytes) (image_size bytes) (relocs_of bytes)
   pub at : fault.at ≡ optional_at bytes + 152
   pub kind : fault.kind ≡ Reloc
 

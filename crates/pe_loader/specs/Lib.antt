@@ -6,4 +6,5 @@ pub mod Images
 pub mod ImageLaws
 pub mod Loading
 pub mod LayoutInside
+pub mod WindowsInside
 pub mod ReadingInside

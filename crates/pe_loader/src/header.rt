@@ -142,7 +142,7 @@ pub(crate) fn table_at(bytes: &[u8]) -> usize
 }
 
 /// Where an entry of the section table stands.
-pub(crate) fn section_at(bytes: &[u8], k: u16) -> usize
+fn section_at(bytes: &[u8], k: u16) -> usize
     requires { optional_place bytes.now + 112 ≤ length bytes.now }
     ensures { result ≡ section_place bytes.now k }
 {

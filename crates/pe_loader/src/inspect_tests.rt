@@ -389,7 +389,7 @@ const RELOCATIONS: &[Case] = &[
 ];
 
 /// What is read of bytes that aren't too many.
-fn read(bytes: &[u8]) -> Option<Result<Image, PeFault>> {
+pub(crate) fn read(bytes: &[u8]) -> Option<Result<Image, PeFault>> {
     if bytes.len() > MOST_BYTES {
         return None;
     }

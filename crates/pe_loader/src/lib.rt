@@ -2,16 +2,21 @@
 //! of an image its bytes where it is loaded. It never takes memory.
 #![tactic(auto)]
 
-mod cursor;
+mod applying;
 mod fields;
 mod fixup;
 mod fixup_kind;
+mod head;
 mod header;
 #[cfg(test)]
 mod inspect_tests;
 mod inspecting;
 pub mod laws;
+mod layout;
+#[cfg(test)]
+mod many_tests;
 mod numbers;
+mod overlaps;
 mod pe_fault;
 #[cfg(test)]
 mod place_tests;
@@ -20,6 +25,8 @@ mod relocations;
 #[cfg(test)]
 mod samples;
 mod sections;
+mod span;
+mod window;
 mod writing;
 
 pub use inspecting::{inspect, part};

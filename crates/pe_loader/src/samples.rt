@@ -107,11 +107,7 @@ pub(crate) fn write(bytes: &mut [u8], piece: &Piece) {
 
 /// So many bytes of this value.
 pub(crate) fn filled(alloc: Global, count: usize, value: u8) -> Result<Vec<u8>, NoMemory> {
-    let mut bytes = Vec::new(alloc);
-    for _ in 0..count {
-        bytes.push(value)?;
-    }
-    Ok(bytes)
+    Ok(vec![in alloc; value; count]?)
 }
 
 /// The bytes of a sample, cut or filled up with zeros to so many, with these pieces written over them.

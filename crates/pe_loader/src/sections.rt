@@ -1,153 +1,90 @@
-//! The sections of an image, and its entry point.
-ghost use Rattle.std.specs.Prelude.{◌≡◌, ◌↔◌, ◌+◌, ◌*◌, ◌≤◌, ◌<◌, ◌&&◌, not, [], ◌∷◌, length, None, OnOk, IfErr, IsTrue};
+//! The checks of sections and of the entry point.
+ghost use Rattle.std.specs.Prelude.{◌≡◌, ◌+◌, ◌≤◌, ◌<◌, ◌&&◌, ◌||◌, ◌==◌, nat_le, [], ◌∷◌, length, None, OnOk, IfErr};
+ghost use Rattle.std.specs.Bool.{OnTrue};
 ghost use Rattle.std.specs.List.{list_any};
 ghost use Rattle.mm_base.specs.Checks.{first_failing};
-ghost use Rattle.pe_loader.specs.Headers.{section_at as section_place, table_at as table_place, part_count as part_count_told, FailsFirst};
-ghost use Rattle.pe_loader.specs.Sections.{part_at as part_told, rights_of, range_of as range_told, lies_in as is_within, overlaps_first as shares_with_first, section_checks, holds_code as has_code_at, parts, entry_passes as entry_is_fit, entry_check};
-ghost use Rattle.pe_loader.specs.LayoutInside.{HasHeaders, EndBefore, AreInOrder};
+ghost use Rattle.pe_loader.specs.Headers.{FailsFirst};
+ghost use Rattle.pe_loader.specs.Sections.{part_of, parts_of, lies_in as is_within, section_checks, holds_code as has_code_at, entry_passes as entry_is_fit, entry_check};
+ghost use Rattle.pe_loader.specs.LayoutInside.{HasHeaders, HasTable, AreInOrder, IsScan, ArePassed};
 
-use crate::fields::{
-    ADDRESS_OF_ENTRY_POINT, CHARACTERISTICS, POINTER_TO_RAW_DATA, SIZE_OF_RAW_DATA,
-    VIRTUAL_ADDRESS, VIRTUAL_SIZE,
-};
-use crate::header::{
-    EBC, SECTION_HEADER_BYTES, field, headers_size, image_size, machine, optional_at, part_count,
-    section_at, table_at,
-};
-use crate::numbers::u32_at;
+use crate::fields::ADDRESS_OF_ENTRY_POINT;
+use crate::header::{EBC, field, image_size, machine, optional_at};
+use crate::layout::{EXECUTE, Layout};
+use crate::overlaps::count_apart;
 use crate::pe_fault::fault;
-use mm_base::{Part, PeFault, PeKind, Range, check};
+use mm_base::{Part, PeFault, PeKind, check};
 
-/// The bit of a section's characteristics that it may be executed, IMAGE_SCN_MEM_EXECUTE.
-const MEM_EXECUTE: u32 = 0x2000_0000;
-
-/// The bit of a section's characteristics that it may be read, IMAGE_SCN_MEM_READ.
-const MEM_READ: u32 = 0x4000_0000;
-
-/// The bit of a section's characteristics that it may be written, IMAGE_SCN_MEM_WRITE.
-const MEM_WRITE: u32 = 0x8000_0000;
-
-/// The bit of a section's rights that it may be read.
-const READ: u8 = 1;
-
-/// The bit of a section's rights that it may be written.
-const WRITE: u8 = 2;
-
-/// The bit of a section's rights that it may be executed.
-const EXECUTE: u8 = 4;
-
-/// The rights that a section's characteristics tell.
-fn rights(bits: u32) -> u8
-    ensures { result ≡ rights_of bits }
-{
-    let read = if bits & MEM_READ != 0 { READ } else { 0 };
-    let write = if bits & MEM_WRITE != 0 { WRITE } else { 0 };
-    let execute = if bits & MEM_EXECUTE != 0 { EXECUTE } else { 0 };
-    read + write + execute
-}
-
-/// A section by its entry of the table, which stands at `table`.
-#[tactic(auto, unfolding(crate::specs::Sections::part_at))]
-pub(crate) fn part_at(bytes: &[u8], table: usize, k: u16) -> Part
-    requires table { table ≡ table_place bytes.now }
-    requires entry { section_place bytes.now k + 40 ≤ length bytes.now }
-    ensures { result ≡ part_told bytes.now k }
-{
-    let entry = table + SECTION_HEADER_BYTES * k as usize;
-    let raw_size = u32_at(bytes, entry + SIZE_OF_RAW_DATA);
-    let virtual_size = u32_at(bytes, entry + VIRTUAL_SIZE);
-    let length = if virtual_size == 0 {
-        raw_size
-    } else {
-        virtual_size
-    };
-    Part {
-        at: u32_at(bytes, entry + VIRTUAL_ADDRESS),
-        length,
-        raw: u32_at(bytes, entry + POINTER_TO_RAW_DATA),
-        copied: length.min(raw_size),
-        rights: rights(u32_at(bytes, entry + CHARACTERISTICS)),
-    }
-}
-
-/// The bytes of the image that a section takes.
-fn range_of(part: &Part) -> Range
-    ensures { result ≡ range_told part.now }
-{
-    Range {
-        base: part.at as u64,
-        length: part.length as u64,
-    }
+/// What a first look at the section table tells: how many sections from its front on lie where they may, and whether none of these
+/// begins in front of the end of an earlier one.
+#[derive(Clone, Copy, Debug, PartialEq, Eq)]
+struct Scan {
+    count: u16,
+    ordered: bool,
 }
 
 /// Whether a section lies behind the headers and in the image, and what it copies lies in the file.
-fn lies_in(bytes: &[u8], part: &Part) -> bool
-    requires { HasHeaders bytes.now }
-    ensures { result ≡ is_within bytes.now part.now }
+fn lies_in(bytes: &[u8], layout: &Layout, part: &Part) -> bool
+    ensures { result ≡ is_within bytes.now layout.now.headers layout.now.size part.now }
 {
-    headers_size(bytes) <= part.at
-        && part.at as u64 + part.length as u64 <= image_size(bytes) as u64
+    layout.headers <= part.at
+        && part.at as u64 + part.length as u64 <= layout.size as u64
         && (part.copied == 0 || part.raw as usize + part.copied as usize <= bytes.len())
 }
 
-/// Whether a section shares a byte with one of the first `count`; linear in these.
-fn overlaps_first(bytes: &[u8], part: &Part, count: u16) -> bool
-    requires headers { HasHeaders bytes.now }
-    requires within { count ≤ part_count_told bytes.now }
-    ensures { result ≡ shares_with_first bytes.now part.now count }
+/// Whether sections that were in order so far, and end at `highest` or before, stay so with this one; one without bytes may stand
+/// anywhere.
+fn stays_ordered(ordered: bool, part: &Part, highest: u32) -> bool
+    ensures { result ≡ (ordered && ((part.now.length == 0) || nat_le highest part.now.at)) }
 {
-    let table = table_at(bytes);
-    for k in 0..count {
-        if range_of(&part_at(bytes, table, k)).overlaps(&range_of(part)) {
-            return true;
-        }
-    }
-    false
+    ordered && (part.length == 0 || highest <= part.at)
 }
 
-/// Whether a section shares a byte with one of the `count` in front of it, which all end at `highest` or before; at most linear in
-/// these.
-fn overlaps_earlier(bytes: &[u8], part: &Part, count: u16, highest: u32) -> bool
-    requires headers { HasHeaders bytes.now }
-    requires within { count ≤ part_count_told bytes.now }
-    requires highest { EndBefore bytes.now count highest }
-    ensures { result ≡ shares_with_first bytes.now part.now count }
+/// Looks at the sections in the order of their table, up to the first that lies where it may not; linear in them.
+fn first_look(bytes: &[u8], layout: &Layout) -> Scan
+    requires { HasTable bytes.now layout.now }
+    ensures { IsScan bytes.now layout.now result }
 {
-    if part.length == 0 {
-        return false;
-    }
-    highest > part.at && overlaps_first(bytes, part, count)
-}
-
-/// Whether a section lies where it may, and overlaps none of the `count` in front of it, which all end at `highest` or before; at
-/// most linear in these.
-fn section_passes(bytes: &[u8], part: &Part, count: u16, highest: u32) -> bool
-    requires headers { HasHeaders bytes.now }
-    requires within { count ≤ part_count_told bytes.now }
-    requires highest { EndBefore bytes.now count highest }
-    ensures { result ≡ (is_within bytes.now part.now && not (shares_with_first bytes.now part.now count)) }
-{
-    lies_in(bytes, part) && !overlaps_earlier(bytes, part, count, highest)
-}
-
-/// Checks the sections in the order of their table; the first that fails is the fault. Linear in them where none begins in front of
-/// the end of an earlier one, and else at most their square.
-pub(crate) fn check_sections(bytes: &[u8]) -> Result<(), PeFault>
-    requires headers { HasHeaders bytes.now }
-    requires few { length bytes.now ≤ 16777216 }
-    ensures ok { OnOk result (first_failing (section_checks bytes.now) ≡ None) }
-    ensures fault { IfErr result (FailsFirst (section_checks bytes.now)) }
-{
-    let table = table_at(bytes);
     let mut highest = 0;
-    for k in 0..part_count(bytes) {
-        let part = part_at(bytes, table, k);
-        let passes = section_passes(bytes, &part, k, highest);
-        let at = section_at(bytes, k) as u32;
-        check(passes, fault(at, PeKind::Section))?;
+    let mut ordered = true;
+    for k in 0..layout.count {
+        let part = layout.part(bytes, k);
+        if !lies_in(bytes, layout, &part) {
+            return Scan { count: k, ordered };
+        }
+        ordered = stays_ordered(ordered, &part, highest);
         highest = highest.max(part.at + part.length);
     }
-    Ok(())
+    Scan {
+        count: layout.count,
+        ordered,
+    }
+}
+
+/// How many sections from the front of the table on pass their checks. Linear in them where none begins in front of the end of an
+/// earlier one; else one pass over them for each window of 65,536 places that one of them reaches.
+fn count_passed(bytes: &[u8], layout: &Layout) -> u16
+    requires { HasTable bytes.now layout.now }
+    ensures { ArePassed bytes.now layout.now result }
+{
+    let look = first_look(bytes, layout);
+    if look.ordered {
+        return look.count;
+    }
+    count_apart(bytes, layout, look.count)
+}
+
+/// Checks the sections in the order of their table; the first that fails is the fault. It costs what `count_passed` does.
+pub(crate) fn check_sections(bytes: &[u8], layout: &Layout) -> Result<(), PeFault>
+    requires table { HasTable bytes.now layout.now }
+    requires few { length bytes.now ≤ 16777216 }
+    ensures ok { OnOk result (first_failing (section_checks bytes.now layout.now) ≡ None) }
+    ensures fault { IfErr result (FailsFirst (section_checks bytes.now layout.now)) }
+{
+    let passed = count_passed(bytes, layout);
+    check(
+        passed == layout.count,
+        fault(layout.entry(bytes, passed) as u32, PeKind::Section),
+    )
 }
 
 /// Whether two bytes from a place on lie in a section that may be executed.
@@ -160,13 +97,12 @@ fn holds_code(place: u32, part: &Part) -> bool
 }
 
 /// Whether two bytes from a place on lie in some section that may be executed; linear in the sections.
-fn is_code(bytes: &[u8], place: u32) -> bool
-    requires { HasHeaders bytes.now }
-    ensures { result ≡ list_any (has_code_at place) (parts bytes.now) }
+fn is_code(bytes: &[u8], layout: &Layout, place: u32) -> bool
+    requires { HasTable bytes.now layout.now }
+    ensures { result ≡ list_any (has_code_at place) (parts_of bytes.now layout.now) }
 {
-    let table = table_at(bytes);
-    for k in 0..part_count(bytes) {
-        if holds_code(place, &part_at(bytes, table, k)) {
+    for k in 0..layout.count {
+        if holds_code(place, &layout.part(bytes, k)) {
             return true;
         }
     }
@@ -180,7 +116,7 @@ fn entry_passes(bytes: &[u8]) -> bool
 {
     let entry = field(bytes, ADDRESS_OF_ENTRY_POINT);
     if machine(bytes) == EBC {
-        entry % 2 == 0 && is_code(bytes, entry)
+        entry % 2 == 0 && is_code(bytes, &Layout::of(bytes), entry)
     } else {
         entry < image_size(bytes)
     }
@@ -202,17 +138,18 @@ pub(crate) fn check_entry(bytes: &[u8]) -> Result<(), PeFault>
     )
 }
 
-/// Whether the sections stand in the table in the order of their places; linear in them.
-pub(crate) fn are_in_order(bytes: &[u8]) -> bool
-    requires headers { HasHeaders bytes.now }
-    ensures { IsTrue result ↔ AreInOrder bytes.now }
+/// Whether each section ends before the next of the table begins; linear in them.
+pub(crate) fn are_in_order(bytes: &[u8], layout: &Layout) -> bool
+    requires { HasTable bytes.now layout.now }
+    ensures { OnTrue result (AreInOrder bytes.now layout.now) }
 {
-    let table = table_at(bytes);
-    for k in 1..part_count(bytes) {
-        let before = part_at(bytes, table, k - 1);
-        if before.at as u64 + before.length as u64 > part_at(bytes, table, k).at as u64 {
+    let mut highest = 0;
+    for k in 0..layout.count {
+        let part = layout.part(bytes, k);
+        if (part.at as u64) < highest {
             return false;
         }
+        highest = part.at as u64 + part.length as u64;
     }
     true
 }

@@ -1,4 +1,5 @@
--- What parts of the reader find. No public clause cites this file.
+-- No public clause cites this file.
+-- What parts of the reader find.
 use Rattle.std.specs.Prelude.{◌≡◌, ℕ, List, take, drop, All}
 use Rattle.courses.specs.FirstCheck.{FailsFirst}
 use Rattle.mm_base.specs.Checks.{Check}

@@ -12,13 +12,13 @@ returns-in_err-check_header-clause-fault c =
     checks_by_headers c.args.bytes.now _ c.in_err-check_header.ensures.fault in
     search rules
 
-pub check_sections-requires-clause-headers : goal.check_sections-requires-clause-headers
-check_sections-requires-clause-headers c = has_headers c.args.bytes.now c.in_ok-check_header.ensures.ok
+pub check_table-requires-clause-headers : goal.check_table-requires-clause-headers
+check_table-requires-clause-headers c = has_headers c.args.bytes.now c.in_ok-check_header.ensures.ok
 
-pub returns-in_err-check_sections-clause-fault : goal.returns-in_err-check_sections-clause-fault
-returns-in_err-check_sections-clause-fault c =
-    let known : FailsFirst (checks c.args.bytes.now) c.in_err-check_sections.field-0.0 =
-    checks_by_sections c.args.bytes.now _ c.in_ok-check_header.ensures.ok c.in_err-check_sections.ensures.fault in
+pub returns-in_err-check_table-clause-fault : goal.returns-in_err-check_table-clause-fault
+returns-in_err-check_table-clause-fault c =
+    let known : FailsFirst (checks c.args.bytes.now) c.in_err-check_table.field-0.0 =
+    checks_by_sections c.args.bytes.now _ c.in_ok-check_header.ensures.ok c.in_err-check_table.ensures.fault in
     search rules
 
 pub check_entry-requires-clause-headers : goal.check_entry-requires-clause-headers
@@ -26,13 +26,13 @@ check_entry-requires-clause-headers c = has_headers c.args.bytes.now c.in_ok-che
 
 pub returns-clause-ok : goal.returns-clause-ok
 returns-clause-ok c =
-    on_ok_weaker _ (λ e. checks_pass c.args.bytes.now c.in_ok-check_header.ensures.ok c.in_ok-check_sections.ensures.ok e) c.check_entry.ensures.ok
+    on_ok_weaker _ (λ e. checks_pass c.args.bytes.now c.in_ok-check_header.ensures.ok c.in_ok-check_table.ensures.ok e) c.check_entry.ensures.ok
 
 pub returns-clause-laid_out : goal.returns-clause-laid_out
 returns-clause-laid_out c =
     let bytes = c.args.bytes.now in
-    on_ok_weaker _ (λ e. laid_out_of bytes (checks_pass bytes c.in_ok-check_header.ensures.ok c.in_ok-check_sections.ensures.ok e)) c.check_entry.ensures.ok
+    on_ok_weaker _ (λ e. laid_out_of bytes (checks_pass bytes c.in_ok-check_header.ensures.ok c.in_ok-check_table.ensures.ok e)) c.check_entry.ensures.ok
 
 pub returns-clause-fault : goal.returns-clause-fault
 returns-clause-fault c =
-    IfErr-weaker _ _ _ (λ fault fails. checks_by_entry c.args.bytes.now fault c.in_ok-check_header.ensures.ok c.in_ok-check_sections.ensures.ok fails) c.check_entry.ensures.fault
+    IfErr-weaker _ _ _ (λ fault fails. checks_by_entry c.args.bytes.now fault c.in_ok-check_header.ensures.ok c.in_ok-check_table.ensures.ok fails) c.check_entry.ensures.fault

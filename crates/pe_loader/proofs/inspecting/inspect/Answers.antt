@@ -1,7 +1,13 @@
 use Rattle.std.proofs.Common.{IfOk, IfErr, Ok, rules}
 use Rattle.pe_loader.specs.Images.{IsImageOf, HasFault}
-use Rattle.pe_loader.proofs.ImageLemmas.{told_found, told_first}
+use Rattle.pe_loader.proofs.ImageLemmas.{headers_there, told_found, told_first}
 use Rattle.pe_loader.proofs.inspecting.inspect.Goals as goal
+
+pub check_relocs-requires-clause-headers : goal.check_relocs-requires-clause-headers
+check_relocs-requires-clause-headers c = headers_there c.args.bytes.now c.in_ok-check_headers_and_sections.ensures.ok
+
+pub image_of-requires-clause-headers : goal.image_of-requires-clause-headers
+image_of-requires-clause-headers c = headers_there c.args.bytes.now c.in_ok-check_headers_and_sections.ensures.ok
 
 pub returns-in_err-check_relocs-clause-found : goal.returns-in_err-check_relocs-clause-found
 returns-in_err-check_relocs-clause-found c =

@@ -1,0 +1,11 @@
+pub mod CountLemmas
+pub mod FamilyLemmas
+pub mod IndexLemmas
+pub mod LawLemmas
+pub mod ListLemmas
+pub mod NameLemmas
+pub mod RootLemmas
+pub mod RoundLemmas
+pub mod StepLemmas
+pub mod TakingLemmas
+pub mod WaitingLemmas

@@ -1,0 +1,5 @@
+pub mod DbLemmas
+pub mod KeyLemmas
+pub mod LawLemmas
+pub mod ListLemmas
+pub mod RowLemmas

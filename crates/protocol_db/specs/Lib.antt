@@ -1,0 +1,4 @@
+pub mod KeysInside
+pub mod Laws
+pub mod ProtocolDb
+pub mod Rows
