@@ -250,10 +250,6 @@ module _ (drivers : List Driver) (differ : NamesDiffer drivers) where
             false≢true (sym none ∙ any_there (λ (one : Driver). same_guid name one.name) drivers driver (In-filter p drivers driver is).0 same))),
       )
 
-  left_false : (a b : Bool) → (a || b) ≡ false → a ≡ false
-  left_false true b is = is
-  left_false false b is = refl
-
   module _ (installed : Guid → Bool) (done : List Driver) (later : List Driver) (rest : HasRoots (done ++ round installed drivers done) later) where
     abbrev due : Driver → Bool
     due driver = is_true installed driver && not (is_scheduled done driver)

@@ -60,10 +60,6 @@ fewer p q weaker (y ∷ ys) x (inr is) passes fails =
       less_or_same (q y) (p y) (weaker y),
     )
 
-not_true : (b : Bool) → not b ≡ true → b ≡ false
-not_true true is = absurd (false≢true is)
-not_true false is = refl
-
 module _ (drivers : List Driver) (differ : NamesDiffer drivers) where
   -- A driver off a path whose names, and its own, are named by no one but from the path.
   record Next (path : List Guid) (driver : Driver) : Type 0 where

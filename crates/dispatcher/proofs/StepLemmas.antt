@@ -57,14 +57,6 @@ module _ (before after : Member → List Member) (links : ℕ) where
         (tt, families_fit (after member) (fits_more before after links member doing.fits.0).1 steps doing.fits.1);
   }
 
-  pub doing_alone : (member : Member) (steps : List Step) (scheduled all : List Member)
-      → Doing before after links (Alone member ∷ steps) scheduled all
-      → Doing before after links steps (scheduled ++ member ∷ []) all
-  doing_alone member steps scheduled all doing = record {
-    rest = append_assoc scheduled (member ∷ []) (flat_map (meant before after links) steps) ∙ doing.rest;
-    fits = doing.fits.1;
-  }
-
   -- opening costs less than the family
   pub opens_cheaper : (member : Member) (steps : List Step)
       → Fits before after links member
