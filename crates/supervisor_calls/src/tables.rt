@@ -140,6 +140,14 @@ impl<F: Frames> Tables<F> {
         self.locked = true;
     }
 
+    /// How many images there are: 32 at most.
+    pub fn images(&self) -> u32
+        ensures value { result ≡ length self.now.site.images }
+        ensures most { length self.now.site.images ≤ 32 }
+    {
+        self.images.len() as u32
+    }
+
     /// Whether handlers may be registered no more.
     #[inline(always)]
     pub fn is_locked(&self) -> bool
