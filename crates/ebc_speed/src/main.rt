@@ -1,81 +1,107 @@
-//! Floor: byte code. It promises nothing: it runs a loop of byte code for as many units as its word says, so that a script can measure
-//! what a unit costs. It never touches a file.
+//! Floor: supervisor. It promises nothing: it runs a loop of byte code over a flat bus, or over the domain of an image, so that a script can
+//! measure what a unit costs. Its tests are those of domains, through their public calls. It never touches a file.
 #![tactic(auto)]
 
-use ebc_machine::{FlatBus, REGISTERS, Regs, invoke};
+#[cfg(test)]
+mod access_tests;
+#[cfg(test)]
+mod driver_tests;
+mod looping;
+mod making;
+
+use crate::looping::{LOOP, loop_over};
+use crate::making::domain_with;
+use ebc_machine::FlatBus;
 use mm_base::{Ended, List};
 use std::alloc::Global;
 use std::env::Args;
 use std::rt::Env;
 use std::{env, io};
 
-/// Where the code stands.
+/// Where the code of the flat bus stands, and how many bytes it has.
 const BASE: u64 = 0x1_0000;
 
-/// Where the data and the stack's end stand, behind the code.
-const DATA: u64 = BASE + 64;
-
-const STACK: u64 = BASE + 4096;
-
-/// How many bytes there are.
 const SIZE: usize = 4096;
+
+/// Where the section of the domain's image stands, its stack's last page, and its communicate page.
+const SECTION: u64 = 0x8000_0100;
+
+const STACK_PAGE: u64 = 0x8000_4000;
+
+const COMMUNICATE: u64 = 0x8000_5000;
 
 /// How many units are run where no word says it.
 const FEW: u32 = 1_000;
 
-/// Eight units a turn of the loop: two moves, two sums, two jumps, a call and its return.
-static LOOP: [u8; 20] = [
-    0x20, 0xa1, // MOVqw R1, @R2
-    0x4c, 0x13, // ADD64 R3, R1
-    0x02, 0x00, // JMP8 to the next instruction
-    0x83, 0x10, 0x06, 0x00, 0x00, 0x00, // CALL the RET
-    0x20, 0x3a, // MOVqw @R2, R3
-    0x4d, 0x54, // SUB64 R4, R5
-    0x02, 0xf7, // JMP8 to the begin
-    0x04, 0x00, // RET
-];
-
-/// The registers with which the loop begins.
-fn opening() -> Regs {
-    let mut r = [0; REGISTERS];
-    r[0] = STACK;
-    r[2] = DATA;
-    r[5] = 1;
-    Regs {
-        r,
-        carry: false,
-        ip: BASE,
-    }
+/// What is to be measured.
+#[derive(Clone, Copy)]
+struct Measure {
+    /// How many units.
+    units: u32,
+    /// Whether over a domain.
+    domain: bool,
 }
 
-/// How many units the first word after the program's name says.
-fn units<R: Env + Alloc<A = Global>>(rt: &R) -> u32 {
-    match env::args(rt) {
-        Ok(words) => first_number(words),
-        Err(_) => FEW,
-    }
-}
-
-/// The number in the second of these words.
-fn first_number(words: Args) -> u32 {
+/// What the words behind the program's name say: the word `domain`, and how many units.
+fn measure_of(words: Args) -> Measure {
+    let mut measure = Measure {
+        units: FEW,
+        domain: false,
+    };
     for word in words.skip(1) {
-        return word.as_str().parse().unwrap_or(FEW);
+        match word.as_str() {
+            "domain" => measure.domain = true,
+            number => measure.units = number.parse().unwrap_or(FEW),
+        }
     }
-    FEW
+    measure
+}
+
+/// What is to be measured, by the program's words.
+fn asked_by<R: Env + Alloc<A = Global>>(rt: &R) -> Measure {
+    match env::args(rt) {
+        Ok(words) => measure_of(words),
+        Err(_) => Measure {
+            units: FEW,
+            domain: false,
+        },
+    }
+}
+
+/// Runs the loop over a flat bus.
+fn over_flat(alloc: Global, units: u32) -> io::Result<(Ended, u64)> {
+    let mut bytes = vec![in alloc; 0u8; SIZE]?;
+    bytes[..LOOP.len()].copy_from_slice(&LOOP);
+    let mut bus = FlatBus::new(BASE, List::from_vec(bytes));
+    Ok(loop_over(&mut bus, BASE, BASE + 64, BASE + 4096, units))
+}
+
+/// Runs the loop over a domain; None where there is none, as where memory is refused.
+fn over_domain(alloc: Global, units: u32) -> Option<(Ended, u64)> {
+    match domain_with(alloc, &LOOP) {
+        Ok(Some(mut domain)) => Some(loop_over(
+            &mut domain,
+            SECTION,
+            STACK_PAGE,
+            COMMUNICATE,
+            units,
+        )),
+        _ => None,
+    }
 }
 
 fn main(rt: HostRuntime) -> io::Result<()> {
-    let mut bytes = vec![in rt.alloc(); 0u8; SIZE]?;
-    bytes[..LOOP.len()].copy_from_slice(&LOOP);
-    let mut bus = FlatBus::new(BASE, List::from_vec(bytes));
-    let mut regs = opening();
-    let fuel = units(&rt);
-    let ended = invoke(&mut regs, &mut bus, fuel);
-    let place = match ended {
-        Ended::Fuel(at) => at,
-        _ => 0,
+    let measure = asked_by(&rt);
+    let units = measure.units;
+    let run = if measure.domain {
+        over_domain(rt.alloc(), units)
+    } else {
+        Some(over_flat(rt.alloc(), units)?)
     };
-    let counted = regs.r[4];
-    println!(rt; "{fuel} units: fuel used up at {place:x}, R4 {counted:x}")?;
-    Ok(())
+    match run {
+        Some((Ended::Fuel(at), counted)) => {
+            println!(rt; "{units} units: fuel used up at {at:x}, R4 {counted:x}")
+        }
+        _ => println!(rt; "the loop ended otherwise"),
+    }
 }

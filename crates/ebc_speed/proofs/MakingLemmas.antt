@@ -6,7 +6,7 @@ use Rattle.mm_base.specs.Frames.{zeros}
 use Rattle.mm_base.specs.Numbers.{overwritten}
 use Rattle.mm_memory.specs.Flat.{MemoryState, PlainState, joined, pages_in}
 use Rattle.mm_memory.proofs.PageLemmas.{joined-pages_in, length-overwritten, length-zeros}
-use Rattle.domain_tests.specs.TestTables.{IsWholeMemory}
+use Rattle.ebc_speed.specs.TestTables.{IsWholeMemory}
 
 abbrev Small : List ℕ → Type 0
 Small = All (λ byte. byte < 256)

@@ -2,7 +2,7 @@
 //! of 100 bytes that may be read and executed, then nothing up to 80001000; the stack up to 80005000, the communicate page, the service page at
 //! 80006000, the pool at 80007000, and the reserve from 80017000 to 80027000.
 ghost use Rattle.std.specs.Prelude.{◌≡◌, IfOk};
-ghost use Rattle.domain_tests.specs.TestTables.{IsWholeMemory, IsOneSection};
+ghost use Rattle.ebc_speed.specs.TestTables.{IsWholeMemory, IsOneSection};
 
 use mm_base::{Guid, Image, List, NoMemory, Opening, Part, Range, Records, Saved};
 use mm_memory::{Memory, PlainFrames};
