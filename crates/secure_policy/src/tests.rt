@@ -1,7 +1,7 @@
 //! Verdicts on two images. What is expected was worked out by hand from the rules; numbers of places are hexadecimal.
 ghost use Rattle.std.specs.Prelude.{IsTrue, All};
 ghost use Rattle.mm_base.specs.Policies.{IsRule};
-ghost use Rattle.std.specs.Prelude.{◌≡◌};
+ghost use Rattle.std.specs.Prelude.{◌≡◌, length};
 ghost use Rattle.secure_policy.specs.TestHomes.{is_data_of_test};
 
 use crate::Guard;
@@ -68,6 +68,11 @@ fn is_data(range: &Range) -> bool
     STACK.covers(range) || COMMUNICATE.covers(range)
 }
 
+/// There are 16 of them: a reference to an array tells it, and one to a rule doesn't.
+fn are_sixteen(bytes: &[u8; 16])
+    ensures { length bytes.now ≡ 16 }
+{}
+
 /// Whether a rule is lawful.
 fn is_lawful(rule: &Rule) -> bool
     ensures { IsTrue result → IsRule rule.now }
@@ -77,6 +82,7 @@ fn is_lawful(rule: &Rule) -> bool
     } else {
         rule.rights == 0
     };
+    are_sixteen(&rule.owner.0);
     rights && rule.range.length >= 1 && rule.range.base <= u64::MAX - (rule.range.length - 1)
 }
 
