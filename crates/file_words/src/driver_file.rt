@@ -94,8 +94,9 @@ fn judged(bytes: &[u8], file: &File) -> Result<DriverParts, Cause>
 }
 
 /// The parts of a driver file, or the first cause to refuse it, whatever other files there are. Linear in its bytes and in its
-/// image's fixups; where the section table of its image isn't in the order of their places, at most the square of these
-/// sections comes on top. It takes no memory.
+/// image's fixups; where the section table of its image isn't in the order of their places, its entries are read at most
+/// twice for each 65,536 places that a section or the relocation directory reaches, and three times more. It takes no
+/// memory.
 pub fn parts_of(bytes: &[u8], file: &File) -> Result<DriverParts, Cause>
     requires within { file.now.body_at + file.now.body ≤ length bytes.now }
     requires few { length bytes.now ≤ 16777216 }

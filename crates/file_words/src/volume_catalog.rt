@@ -18,9 +18,10 @@ const MM_STANDALONE: u8 = 0x0e;
 const PAD: u8 = 0xf0;
 
 /// The word of each file of a volume, in order; of the volume no more is asked than that the bodies of its files lie in the
-/// bytes. It takes memory for the words and for the names of drivers, after each word is known. It costs one pass over the files, over the bytes of drivers and over
-/// the fixups of their images, at most the square of the sections of an image whose table isn't in the order of their
-/// places, and for each driver a comparison for each doubling of their number.
+/// bytes. It takes memory for the words and for the names of drivers, after each word is known. It costs one pass over the
+/// files, over the bytes of drivers and over the fixups of their images, and for each driver a comparison for each doubling
+/// of their number. Where the section table of an image isn't in the order of their places, its entries are read at most
+/// twice for each 65,536 places that a section or the relocation directory reaches, and three times more.
 pub fn catalog(alloc: Global, bytes: &[u8], volume: &Volume) -> Result<List<FileWord>, NoMemory>
     requires within { All (λ file. file.body_at + file.body ≤ length bytes.now) volume.now.files }
     requires few { length bytes.now ≤ 16777216 }

@@ -12,8 +12,9 @@ use mm_text::{Parts, report};
 use std::alloc::Global;
 use volume_reader::read_volume;
 
-/// The report of the volume that these bytes are. The volume's fault comes before that of its policy. Each byte is read a bounded number of times, but for the entries of the section
-/// table of an image that isn't in the order of their places: those at most as often as there are sections.
+/// The report of the volume that these bytes are. The volume's fault comes before that of its policy. Each byte is read a
+/// bounded number of times, but for the entries of the section table of an image that isn't in the order of their places:
+/// those at most twice for each 65,536 places that a section or the relocation directory reaches, and three times more.
 pub(crate) fn check_volume(alloc: Global, bytes: &[u8]) -> Result<Made, Status>
     requires { length bytes.now ≤ 16777216 }
     ensures ok { IfOk result (IsMadeOfVolume bytes.now) }
