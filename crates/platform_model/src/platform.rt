@@ -1,6 +1,6 @@
 //! The cells of the platform: ports, bytes of the device window, and model-specific registers. They act like memory: nothing else
 //! happens when one is read or written.
-ghost use Rattle.std.specs.Prelude.{◌≡◌, ◌+◌, ◌-◌, ◌≤◌, ◌<◌, ◌^◌, length, IfOk, IsTrue, vec_len};
+ghost use Rattle.std.specs.Prelude.{◌≡◌, ◌+◌, ◌-◌, ◌≤◌, ◌<◌, ◌^◌, length, take, drop, IfOk, IsTrue, vec_len};
 ghost use Rattle.mm_base.specs.Cells.{IsOpening, IsOpeningCell, is_msr};
 ghost use Rattle.mm_base.specs.Frames.{zeros};
 ghost use Rattle.mm_base.specs.Numbers.{low_bytes, number_in, overwritten};
@@ -144,6 +144,16 @@ impl Platform {
         small_number_at(self.device.as_slice(), place, n)
     }
 
+    /// The 16 device bytes from the address `at` on.
+    pub fn sixteen_bytes(&self, at: u64) -> [u8; 16]
+        requires there { 0xfe000000 ≤ at }
+        requires within { at + 16 ≤ 0xfe010000 }
+        ensures { result ≡ take 16 (drop (at - 0xfe000000) self.now.device) }
+    {
+        let place = (at - DEVICE_WINDOW.base) as usize;
+        sixteen_at(self.device.as_slice(), place)
+    }
+
     /// Writes the `n` low bytes of a number to the device bytes from the address `at` on; `n` is 1 to 8.
     pub fn dev_write(&mut self, at: u64, n: u8, value: u64)
         requires low { 1 ≤ n }
@@ -184,6 +194,16 @@ fn small_number_at(bytes: &[u8], at: usize, n: u8) -> u64
     ensures small { result < 256 ^ n }
 {
     number_at(bytes, at, n)
+}
+
+/// The 16 bytes from a place on.
+fn sixteen_at(bytes: &[u8], at: usize) -> [u8; 16]
+    requires { at + 16 ≤ length bytes.now }
+    ensures { result ≡ take 16 (drop at bytes.now) }
+{
+    let mut all = [0; 16];
+    all.copy_from_slice(&bytes[at..at + 16]);
+    all
 }
 
 /// Writes the `n` low bytes of a number over bytes from a place on.

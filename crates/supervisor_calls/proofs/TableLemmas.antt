@@ -82,6 +82,7 @@ keeps_memory tables bytes keeps long small = record {
   reserves = keeps.reserves;
   sixteen = keeps.sixteen;
   frozen = keeps.frozen;
+  settled = keeps.settled;
   live = keeps.live;
 }
 

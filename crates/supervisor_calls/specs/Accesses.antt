@@ -1,11 +1,11 @@
 -- What an image's accesses to memory come to: the verdict first, then the record of a denial, or the effect on just these bytes.
-use Rattle.std.specs.Prelude.{◌≡◌, ℕ, ◌-◌, ◌%◌, Bool, true, false, ◌&&◌, if◌then◌else◌, nat_lt, nat_le, List, [], ◌∷◌, ◌++◌, length, take, drop, replicate, find, ◌==◌, Option, Some, None, Result, Ok, Err, slice_get}
+use Rattle.std.specs.Prelude.{◌≡◌, ℕ, ◌-◌, ◌%◌, Bool, true, false, ◌&&◌, if◌then◌else◌, nat_lt, nat_le, List, [], ◌∷◌, ◌++◌, length, take, drop, replicate, find, ◌==◌, Option, Some, None, Result, Ok, Err, slice_get, slice_index}
 use Rattle.std.specs.List.{range_with_len}
 use Rattle.std.specs.Option.{option_map_or}
 use Rattle.image_table.specs.ImageTable.{is_home_at, name_at}
 use Rattle.image_table.specs.declared.placed_image.PlacedImage.{PlacedImage}
 use Rattle.mm_base.specs.Cells.{is_device_byte}
-use Rattle.mm_base.specs.Numbers.{number_of, low_bytes, overwritten}
+use Rattle.mm_base.specs.Numbers.{number_of, number_in, low_bytes, overwritten}
 use Rattle.mm_base.specs.Records.{RecordsState}
 use Rattle.mm_base.specs.Regions.{service_page_of}
 use Rattle.mm_base.specs.Services.{entry_of}
@@ -21,6 +21,8 @@ use Rattle.mm_base.specs.declared.access.Why.TheVariants as whys
 use Rattle.mm_base.specs.declared.bus.Target.{Target}
 use Rattle.mm_base.specs.declared.bus.Target.TheVariants.{Service, Code, Other}
 use Rattle.mm_base.specs.declared.cells.CellWrite.{CellWrite}
+use Rattle.mm_base.specs.declared.cells.Saved.{Saved}
+use Rattle.platform_model.specs.Cells.{register_in, with_register}
 use Rattle.secure_policy.specs.Laws.{passes}
 use Rattle.secure_policy.specs.Verdicts.{Basis, verdict_on}
 use Rattle.supervisor_calls.specs.Tables.{Site, Live}
@@ -38,9 +40,9 @@ pub record Acting : Type 0 where
   pub live : Live
   pub records : RecordsState
 
--- an access to memory that is denied for this
-abbrev pub denial_of : Right → ℕ → ℕ → Why → Denial
-denial_of right at n why = record { kind = kinds.Memory; right = right; at = at; n = n; why = why }
+-- an access that is denied for this
+abbrev pub denial_of : Kind → Right → ℕ → ℕ → Why → Denial
+denial_of kind right at n why = record { kind = kind; right = right; at = at; n = n; why = why }
 
 -- a denial is recorded, up to the 8th
 abbrev pub with_denial : Denial → Acting → Acting
@@ -71,23 +73,53 @@ answered (Deny why) denial value acting = (Err (denial why), with_denial (denial
 abbrev pub has_used_quota : RecordsState → Bool
 has_used_quota records = nat_le 16 (length records.writes)
 
--- a write that the verdict lets pass is denied where it is one to cells, and the invocation has made all that it may make
-abbrev pub with_quota : ℕ → RecordsState → Verdict → Verdict
-with_quota at records (Pass why) = if is_device_byte at && has_used_quota records then Deny whys.Quota else Pass why
-with_quota at records (Deny why) = Deny why
+-- whether a write there is one to cells: each but one to memory outside the device window; saved registers are written by nobody
+abbrev pub is_cell_write : Kind → ℕ → Bool
+is_cell_write kinds.Memory at = is_device_byte at
+is_cell_write kinds.Io at = true
+is_cell_write kinds.Msr at = true
+is_cell_write kinds.Saved at = false
 
--- a write to device bytes is recorded, with the number that they hold after it
-abbrev pub with_cell_write : ℕ → ℕ → List ℕ → RecordsState → RecordsState
-with_cell_write at n piece records =
-    if is_device_byte at
-    then record records { writes = records.writes ++ record { kind = kinds.Memory; at = at; n = n; value = number_of piece } ∷ [] }
+-- a write that the verdict lets pass is denied where it is one to cells, and the invocation has made all that it may make
+abbrev pub with_quota : Kind → ℕ → RecordsState → Verdict → Verdict
+with_quota kind at records (Pass why) = if is_cell_write kind at && has_used_quota records then Deny whys.Quota else Pass why
+with_quota kind at records (Deny why) = Deny why
+
+-- The number in n units: the lowest byte or port is the first; a register is one unit.
+abbrev pub number_at : Live → Saved → Kind → ℕ → ℕ → ℕ
+number_at live saved kinds.Memory at n = number_of (bytes_at live at n)
+number_at live saved kinds.Io at n = number_in live.platform.ports at n
+number_at live saved kinds.Msr at n = register_in live.platform at
+number_at live saved kinds.Saved at n = slice_index saved.0 at
+
+-- the low bytes of a number written to n units, or a whole register
+abbrev pub with_number : Kind → ℕ → ℕ → ℕ → Live → Live
+with_number kinds.Memory at n value live = with_bytes at (low_bytes n value) live
+with_number kinds.Io at n value live =
+    record live { platform = record live.platform { ports = overwritten live.platform.ports at (low_bytes n value) } }
+with_number kinds.Msr at n value live = record live { platform = with_register at value live.platform }
+with_number kinds.Saved at n value live = live
+
+-- the number that n units hold after a number was written to them
+abbrev pub held_after : Kind → ℕ → ℕ → ℕ
+held_after kinds.Memory n value = number_of (low_bytes n value)
+held_after kinds.Io n value = number_of (low_bytes n value)
+held_after kinds.Msr n value = value
+held_after kinds.Saved n value = value
+
+-- a write to cells is recorded, with the number that they hold after it
+abbrev pub with_cell_write : Kind → ℕ → ℕ → ℕ → RecordsState → RecordsState
+with_cell_write kind at n value records =
+    if is_cell_write kind at
+    then record records { writes = records.writes ++ record { kind = kind; at = at; n = n; value = held_after kind n value } ∷ [] }
     else records
 
--- A write that passes changes just its bytes; one that is denied changes the records alone.
-abbrev pub changed : Verdict → ℕ → ℕ → ℕ → Acting → Result (Unit {0}) Denial × Acting
-changed (Pass why) at n value acting =
-    (Ok tt, record { live = with_bytes at (low_bytes n value) acting.live; records = with_cell_write at n (low_bytes n value) acting.records })
-changed (Deny why) at n value acting = (Err (denial_of rights.Write at n why), with_denial (denial_of rights.Write at n why) acting)
+-- A write that passes changes just its units; one that is denied changes the records alone.
+abbrev pub changed : Verdict → Kind → ℕ → ℕ → ℕ → Acting → Result (Unit {0}) Denial × Acting
+changed (Pass why) kind at n value acting =
+    (Ok tt, record { live = with_number kind at n value acting.live; records = with_cell_write kind at n value acting.records })
+changed (Deny why) kind at n value acting =
+    (Err (denial_of kind rights.Write at n why), with_denial (denial_of kind rights.Write at n why) acting)
 
 -- the number of the service whose entry stands at an address of this service page
 abbrev pub service_at : ℕ → ℕ → Option ℕ

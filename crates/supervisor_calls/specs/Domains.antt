@@ -1,29 +1,17 @@
--- A domain: what one invocation of one image may touch, as the bus of its byte code.
-use Rattle.std.specs.Prelude.{ℕ, ◌-◌, Bool, if◌then◌else◌, List, ◌++◌, replicate, slice_index, Result}
-use Rattle.mm_base.specs.Bus.{Meaning}
+-- A domain: what one invocation of one image may touch, and what its accesses to memory answer and leave.
+use Rattle.std.specs.Prelude.{ℕ, ◌-◌, Bool, true, false, if◌then◌else◌, List, ◌++◌, replicate, slice_index, Result}
 use Rattle.mm_base.specs.Numbers.{number_of}
 use Rattle.mm_base.specs.Records.{RecordsState}
-use Rattle.mm_base.specs.Statuses.{unsupported}
+use Rattle.mm_base.specs.declared.access.Denial.{Denial}
+use Rattle.mm_base.specs.declared.access.Kind.{Kind}
 use Rattle.mm_base.specs.declared.access.Kind.TheVariants as kinds
+use Rattle.mm_base.specs.declared.access.Right.{Right}
 use Rattle.mm_base.specs.declared.access.Right.TheVariants as rights
-use Rattle.mm_base.specs.declared.bus.Served.TheVariants.{Status}
+use Rattle.mm_base.specs.declared.access.Verdict.{Verdict}
+use Rattle.mm_base.specs.declared.bus.Target.{Target}
 use Rattle.mm_base.specs.declared.cells.Saved.{Saved}
 use Rattle.supervisor_calls.specs.Accesses.{Acting, decided, denial_of, bytes_at, answered, with_quota, changed, service_of, is_code, target_by}
 use Rattle.supervisor_calls.specs.Tables.{Site, TablesState}
-
--- The bus of an image: what its fetches, reads and writes answer and leave, and what stands at the target of a native call. Services answer
--- UNSUPPORTED, and read nothing.
-abbrev pub bus_of_image : Site → ℕ → ℕ → Meaning Acting
-bus_of_image site image trapped = record {
-  fetches = λ acting at n.
-      answered (decided site image kinds.Memory at n rights.Execute trapped) (denial_of rights.Execute at n) (bytes_at acting.live at n ++ replicate (18 - n) 0) acting;
-  reads = λ acting at n.
-      answered (decided site image kinds.Memory at n rights.Read trapped) (denial_of rights.Read at n) (number_of (bytes_at acting.live at n)) acting;
-  writes = λ acting at n value.
-      changed (with_quota at acting.records (decided site image kinds.Memory at n rights.Write trapped)) at n value acting;
-  targets = λ acting at. target_by (service_of site image at) (is_code site image trapped at);
-  serves = λ acting number stack. (Status unsupported, acting);
-}
 
 -- What contracts see of a domain: the tables, whose image acts, the saved registers, and the records of this invocation.
 pub record DomainState : Type 0 where
@@ -31,6 +19,10 @@ pub record DomainState : Type 0 where
   pub image : ℕ
   pub saved : Saved
   pub records : RecordsState
+
+-- the saved registers as an image sees them: 0 before lock
+abbrev pub seen_registers : DomainState → Saved
+seen_registers domain = if domain.tables.locked then domain.saved else record { 0 = replicate 19 0 }
 
 -- the access that the processor was trapped at: the last of the saved registers; none before lock
 abbrev pub trapped_of : DomainState → ℕ
@@ -46,15 +38,29 @@ acted domain acting = record domain { tables = record domain.tables { live = act
 abbrev pub with_acting : {A : Type 0} → DomainState → A × Acting → A × DomainState
 with_acting domain told = (told.0, acted domain told.1)
 
-abbrev pub bus_of_domain : DomainState → Meaning Acting
-bus_of_domain domain = bus_of_image domain.tables.site domain.image (trapped_of domain)
+-- the verdict on an access of a domain's image, and that on a write, of which cells bear only so many
+abbrev pub verdict_in : DomainState → Kind → ℕ → ℕ → Right → Verdict
+verdict_in domain kind at n right = decided domain.tables.site domain.image kind at n right (trapped_of domain)
 
--- A domain is the bus of its image, over what of it an access may change.
-abbrev pub domain_meaning : Meaning DomainState
-domain_meaning = record {
-  fetches = λ domain at n. with_acting domain ((bus_of_domain domain).fetches (acting_of domain) at n);
-  reads = λ domain at n. with_acting domain ((bus_of_domain domain).reads (acting_of domain) at n);
-  writes = λ domain at n value. with_acting domain ((bus_of_domain domain).writes (acting_of domain) at n value);
-  targets = λ domain at. (bus_of_domain domain).targets (acting_of domain) at;
-  serves = λ domain number stack. with_acting domain ((bus_of_domain domain).serves (acting_of domain) number stack);
-}
+abbrev pub write_verdict : DomainState → Kind → ℕ → ℕ → Verdict
+write_verdict domain kind at n = with_quota kind at domain.records (verdict_in domain kind at n rights.Write)
+
+-- what a fetch, a read and a write of n bytes at an address answer and leave
+abbrev pub fetched : DomainState → ℕ → ℕ → Result (List ℕ) Denial × DomainState
+fetched domain at n =
+    let bytes = bytes_at domain.tables.live at n ++ replicate (18 - n) 0 in
+    with_acting domain (answered (verdict_in domain kinds.Memory at n rights.Execute) (denial_of kinds.Memory rights.Execute at n) bytes (acting_of domain))
+
+abbrev pub read_at : DomainState → ℕ → ℕ → Result ℕ Denial × DomainState
+read_at domain at n =
+    let number = number_of (bytes_at domain.tables.live at n) in
+    with_acting domain (answered (verdict_in domain kinds.Memory at n rights.Read) (denial_of kinds.Memory rights.Read at n) number (acting_of domain))
+
+abbrev pub written_at : DomainState → ℕ → ℕ → ℕ → Result (Unit {0}) Denial × DomainState
+written_at domain at n value =
+    with_acting domain (changed (write_verdict domain kinds.Memory at n) kinds.Memory at n value (acting_of domain))
+
+-- what stands at the target of a native call
+abbrev pub target_at : DomainState → ℕ → Target
+target_at domain at =
+    target_by (service_of domain.tables.site domain.image at) (is_code domain.tables.site domain.image (trapped_of domain) at)

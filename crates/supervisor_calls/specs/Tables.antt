@@ -7,6 +7,7 @@ use Rattle.mm_memory.specs.Flat.{AreLive}
 use Rattle.mmi_registry.specs.Registry.{RegistryState}
 use Rattle.platform_model.specs.Cells.{PlatformState}
 use Rattle.pool_tree.specs.Pool.{Block}
+use Rattle.protocol_db.specs.ProtocolDb.{DbState}
 
 -- what stays from lock on: the images in order of admission, with their places, and the policy
 pub record Site : Type 0 where
@@ -21,11 +22,12 @@ pub record Live : Type 0 where
   pub pools : List (List Block)
   pub reserves : List (List Bool)
 
--- the tables: these two, the handlers, whether they are locked, and which pages of memory may be read and written
+-- the tables: these two, the handlers, the interfaces, whether they are locked, and which pages of memory may be read and written
 pub record TablesState : Type 0 where
   pub site : Site
   pub live : Live
   pub registry : RegistryState
+  pub protocols : DbState
   pub locked : Bool
   pub pages : List Bool
 
@@ -46,7 +48,7 @@ abbrev pub IsRegionLive : List Bool → PlacedImage → Type 0
 IsRegionLive pages image = AreLive pages (image.region.base - 0x80000000) (4096 * (image.region.pages + 38))
 
 -- What all tables keep: memory has 8,192 pages of 4,096 bytes; there is a pool and a reserve of 16 pages for each image; handlers may be
--- registered exactly until the lock; and the pages of each image's region are live.
+-- registered and interfaces installed exactly until the lock; and the pages of each image's region are live.
 pub record IsTables (tables : TablesState) : Type 0 where
   pub memory : length tables.live.memory ≡ 33554432
   pub bytes : All (λ byte. byte < 256) tables.live.memory
@@ -54,4 +56,5 @@ pub record IsTables (tables : TablesState) : Type 0 where
   pub reserves : length tables.live.reserves ≡ length tables.site.images
   pub sixteen : All (λ reserve. length reserve ≡ 16) tables.live.reserves
   pub frozen : tables.registry.frozen ≡ tables.locked
+  pub settled : tables.protocols.frozen ≡ tables.locked
   pub live : All (IsRegionLive tables.pages) tables.site.images

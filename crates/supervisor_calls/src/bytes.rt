@@ -66,3 +66,19 @@ pub(crate) fn code_from<F: Frames>(memory: &Memory<F>, at: u32, n: u8) -> [u8; M
     let third = word_from(memory, at + 16, n - 16);
     joined(&first, &second, &third)
 }
+
+/// The 16 bytes from a place on.
+pub(crate) fn sixteen_from<F: Frames>(memory: &Memory<F>, at: u32) -> [u8; 16]
+    requires within { at + 16 ≤ length memory.now.bytes }
+    requires near { length memory.now.bytes ≤ 33554432 }
+    requires live { AreLive memory.now.live at 16 }
+    requires small { All (λ byte. byte < 256) memory.now.bytes }
+    ensures { result ≡ take 16 (drop at memory.now.bytes) }
+{
+    let first = word_from(memory, at, 8);
+    let second = word_from(memory, at + 8, 8);
+    let mut all = [0; 16];
+    put(&mut all, 0, &first);
+    put(&mut all, 8, &second);
+    all
+}

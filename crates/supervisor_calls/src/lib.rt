@@ -3,11 +3,22 @@
 //! made or grow, and never runs byte code.
 #![tactic(auto)]
 
+mod access;
+mod arguments;
 mod bus;
 mod bytes;
+mod cell_services;
 mod domain;
+mod handler_services;
+mod holdings;
+mod interface_services;
+mod judging;
 pub mod laws;
+mod listings;
 mod memory_access;
+mod page_services;
+mod pool_services;
+mod services;
 mod tables;
 
 pub use domain::{Domain, enter};

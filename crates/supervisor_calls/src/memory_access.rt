@@ -1,18 +1,19 @@
 //! Accesses of images to memory and to the device window, which a verdict has let pass.
 ghost use Rattle.std.specs.Prelude.{◌≡◌, ◌⊎◌, ◌<◌, ◌≤◌, ◌-◌, ◌+◌, ◌^◌, ◌++◌, true, Some, length, replicate, IfSome};
 ghost use Rattle.mm_base.specs.Bus.{IsAccessWidth};
-ghost use Rattle.mm_base.specs.Cells.{is_device_byte};
+ghost use Rattle.mm_base.specs.Cells.{is_device_byte, is_msr};
 ghost use Rattle.mm_base.specs.Numbers.{number_of, low_bytes};
 ghost use Rattle.mm_base.specs.declared.access.Kind.TheVariants as kinds;
 ghost use Rattle.mm_base.specs.declared.access.Right.TheVariants as rights;
 ghost use Rattle.secure_policy.specs.Laws.{passes};
-ghost use Rattle.supervisor_calls.specs.Accesses.{decided, bytes_at, with_bytes, service_at as service_on, service_of};
+ghost use Rattle.platform_model.specs.Cells.{IsPortWidth};
+ghost use Rattle.supervisor_calls.specs.Accesses.{decided, bytes_at, with_bytes, with_number, service_at as service_on, service_of};
 
-use crate::bytes::code_from;
+use crate::access::Access;
+use crate::bytes::{code_from, sixteen_from};
 use crate::tables::Tables;
 use mm_base::{
-    DEVICE_WINDOW, Frames, Kind, MMRAM, MOST_FETCHED, Region, Right, SERVICES, Verdict,
-    service_entry,
+    DEVICE_WINDOW, Frames, MMRAM, MOST_FETCHED, Region, SERVICES, Verdict, service_entry,
 };
 
 /// Whether an address is one of the device window.
@@ -38,13 +39,14 @@ fn service_in(page: u64, at: u64) -> Option<u8>
 }
 
 impl<F: Frames> Tables<F> {
-    /// The verdict on an access of an image to memory, by the policy and the image's own ranges.
+    /// The verdict on an access of an image, by the policy and the image's own ranges.
     #[inline(always)]
-    pub(crate) fn decide(&self, image: u32, at: u64, n: u8, right: Right, trapped: u64) -> Verdict
-        ensures { result ≡ decided self.now.site image kinds.Memory at n right trapped }
+    pub(crate) fn decide(&self, image: u32, access: Access, trapped: u64) -> Verdict
+        ensures { result ≡ decided self.now.site image access.kind access.at access.n access.right trapped }
     {
+        let Access { kind, right, at, n } = access;
         self.guard
-            .decide(&self.images, image, Kind::Memory, at, n, right, trapped)
+            .decide(&self.images, image, kind, at, n, right, trapped)
     }
 
     /// The bytes of an instruction that an image may execute, in front of zeros.
@@ -57,6 +59,19 @@ impl<F: Frames> Tables<F> {
     {
         self.keeps();
         code_from(&self.memory, (at - MMRAM.base) as u32, n)
+    }
+
+    /// The 16 bytes from an address on, which an image may read.
+    pub(crate) fn sixteen(&self, image: u32, at: u64, trapped: u64) -> [u8; 16]
+        requires passes { passes (decided self.now.site image kinds.Memory at 16 rights.Read trapped) ≡ true }
+        ensures { result ≡ bytes_at self.now.live at 16 }
+    {
+        self.keeps();
+        if is_device(at) {
+            self.platform.sixteen_bytes(at)
+        } else {
+            sixteen_from(&self.memory, (at - MMRAM.base) as u32)
+        }
     }
 
     /// The number in bytes that an image may read.
@@ -87,6 +102,23 @@ impl<F: Frames> Tables<F> {
         } else {
             self.memory.write((at - MMRAM.base) as u32, n, value);
         }
+    }
+
+    /// Writes the low bytes of a number to ports.
+    pub(crate) fn write_ports(&mut self, port: u64, n: u8, value: u64)
+        requires width { IsPortWidth n }
+        requires within { port + n ≤ 65536 }
+        ensures { self.new ≡ record self.old { live = with_number kinds.Io port n value self.old.live } }
+    {
+        self.platform.io_write(port, n, value);
+    }
+
+    /// Writes a model-specific register.
+    pub(crate) fn write_msr(&mut self, index: u64, value: u64)
+        requires { is_msr index ≡ true }
+        ensures { self.new ≡ record self.old { live = with_number kinds.Msr index 1 value self.old.live } }
+    {
+        self.platform.wrmsr(index, value);
     }
 
     /// The number of the service of an image whose entry stands at an address. It costs one step a service.

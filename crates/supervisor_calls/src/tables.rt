@@ -9,31 +9,34 @@ ghost use Rattle.mm_base.specs.Regions.{region_of};
 ghost use Rattle.supervisor_calls.specs.Tables.{IsTables, IsRegionLive, number_for, with_image};
 
 use image_table::{ImageTable, MOST_IMAGES};
-use mm_base::{Frames, Guid, Image, List, NoMemory, Part, RESERVE_PAGES, Room};
+use mm_base::{Frames, Guid, Image, List, NoMemory, Part, RESERVE_PAGES};
 use mm_memory::Memory;
 use mmi_registry::Registry;
 use page_runs::RunMap;
 use platform_model::Platform;
 use pool_tree::PoolTree;
+use protocol_db::ProtocolDb;
 use secure_policy::Guard;
 use std::alloc::Global;
 use std::marker::Model;
 
-/// What a core keeps for its images: memory, the images with their pools and reserves, the policy, the cells and the handlers.
+/// What a core keeps for its images: memory, the images with their pools and reserves, the policy, the cells, the handlers and the
+/// interfaces.
 #[derive(Drop)]
 pub struct Tables<F: Frames> {
     pub(crate) memory: Memory<F>,
     pub(crate) images: ImageTable,
-    pub(crate) pools: Room<PoolTree>,
-    pub(crate) reserves: Room<RunMap>,
+    pub(crate) pools: Vec<PoolTree>,
+    pub(crate) reserves: Vec<RunMap>,
     pub(crate) guard: Guard,
     pub(crate) platform: Platform,
     pub(crate) registry: Registry,
+    pub(crate) protocols: ProtocolDb,
     pub(crate) locked: bool,
 }
 
 impl<F: Frames> Model for Tables<F> {
-    ghost use Rattle.std.specs.Prelude.{◌≡◌};
+    ghost use Rattle.std.specs.Prelude.{◌≡◌, ◌≤◌, vec_capacity};
     ghost use Rattle.supervisor_calls.specs.Tables.{TablesState, IsTables};
 
     ghost Value = { TablesState };
@@ -42,17 +45,19 @@ impl<F: Frames> Model for Tables<F> {
       site = record { images = t.images; policy = t.guard };
       live = record { memory = t.memory.bytes; platform = t.platform; pools = t.pools.items; reserves = t.reserves.items };
       registry = t.registry;
+      protocols = t.protocols;
       locked = t.locked;
       pages = t.memory.live;
     } };
 
     ghost invariant = { λ t. record {
-      pools : t.pools.room ≡ 32;
-      reserves : t.reserves.room ≡ 32;
+      pools : 32 ≤ vec_capacity t.pools;
+      reserves : 32 ≤ vec_capacity t.reserves;
       keeps : IsTables (record {
         site = record { images = t.images; policy = t.guard };
         live = record { memory = t.memory.bytes; platform = t.platform; pools = t.pools.items; reserves = t.reserves.items };
         registry = t.registry;
+        protocols = t.protocols;
         locked = t.locked;
         pages = t.memory.live;
       });
@@ -60,7 +65,7 @@ impl<F: Frames> Model for Tables<F> {
 }
 
 impl<F: Frames + Drop> Tables<F> {
-    /// Tables without images and handlers, over memory of 8,192 pages. It takes the memory of the tables.
+    /// Tables without images, handlers and interfaces, over memory of 8,192 pages. It takes the memory of the tables.
     pub fn new(
         alloc: Global,
         memory: Memory<F>,
@@ -73,14 +78,15 @@ impl<F: Frames + Drop> Tables<F> {
           site = record { images = []; policy = guard };
           live = record { memory = memory.bytes; platform = platform; pools = []; reserves = [] };
           registry = record { handlers = []; next = 0; frozen = false };
+          protocols = record { rows = []; next = 256; frozen = false };
           locked = false;
           pages = memory.live;
         }) }
     {
         let images = ImageTable::new(alloc)?;
         let registry = Registry::new(alloc)?;
-        let pools = Room::new(alloc, MOST_IMAGES)?;
-        let reserves = Room::new(alloc, MOST_IMAGES)?;
+        let pools = Vec::with_capacity(alloc, MOST_IMAGES)?;
+        let reserves = Vec::with_capacity(alloc, MOST_IMAGES)?;
         Ok(Tables {
             memory,
             images,
@@ -89,6 +95,7 @@ impl<F: Frames + Drop> Tables<F> {
             guard,
             platform,
             registry,
+            protocols: ProtocolDb::new(alloc),
             locked: false,
         })
     }
@@ -121,22 +128,24 @@ impl<F: Frames> Tables<F> {
         self.keeps();
         match self.images.admit(name, base, image, parts) {
             Some(number) => {
-                self.pools.push(pool);
-                self.reserves.push(reserve);
+                self.pools.push_reserved(pool);
+                self.reserves.push_reserved(reserve);
                 Ok(Some(number))
             }
             None => Ok(None),
         }
     }
 
-    /// Ends registration, for good.
+    /// Ends registration and installation, for good.
     pub fn lock(&mut self)
         ensures { self.new ≡ record self.old {
           registry = record self.old.registry { frozen = true };
+          protocols = record self.old.protocols { frozen = true };
           locked = true;
         } }
     {
         self.registry.freeze();
+        self.protocols.freeze();
         self.locked = true;
     }
 
