@@ -1,4 +1,6 @@
 pub mod ByteLemmas
+pub mod CellLemmas
+pub mod DeedLemmas
 pub mod LawLemmas
 pub mod LetThrough
 pub mod TableLemmas
