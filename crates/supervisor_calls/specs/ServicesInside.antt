@@ -1,4 +1,5 @@
--- Words for private contracts of services.
+-- No public clause cites this file.
+-- How the parts of services say what they do.
 use Rattle.std.specs.Prelude.{ℕ, ◌⊎◌, Result, Ok, Err}
 use Rattle.mm_base.specs.Bus.{Answers, IsOutOfMemory}
 use Rattle.mm_base.specs.declared.access.Kind.{Kind}
