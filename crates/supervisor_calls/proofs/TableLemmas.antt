@@ -14,10 +14,14 @@ use Rattle.mm_base.specs.Platform.{mmram}
 use Rattle.mm_base.specs.Range.{encloses}
 use Rattle.mm_base.specs.Regions.{IsAddressable, region_of, service_page_of}
 use Rattle.mm_base.specs.Services.{entry_of}
+use Rattle.mm_base.specs.declared.access.Kind.TheVariants.{Memory}
+use Rattle.mm_base.specs.declared.access.Right.{Right}
 use Rattle.mm_base.specs.declared.region.Region.{Region}
-use Rattle.supervisor_calls.specs.Accesses.{bytes_at, service_at}
+use Rattle.secure_policy.specs.Laws.{passes}
+use Rattle.supervisor_calls.specs.Accesses.{bytes_at, decided, service_at}
+use Rattle.supervisor_calls.specs.AccessesInside.{AreOfDevice, AreStored}
 use Rattle.supervisor_calls.specs.Tables.{Live, TablesState, IsTables}
-use Rattle.supervisor_calls.proofs.WhereLemmas.{InMemory, InDevice, device_told, memory_told, of_image}
+use Rattle.supervisor_calls.proofs.WhereLemmas.{InMemory, InDevice, device_told, memory_told, of_image, passed_where}
 
 -- ---- widths and sides
 
@@ -35,6 +39,25 @@ module _ (pages : List Bool) (at n : ℕ) (some : 1 ≤ n) where
   pub memory_side : InMemory pages at n ⊎ InDevice at n → is_device_byte at ≡ false → InMemory pages at n
   memory_side (inl memory) e = memory
   memory_side (inr device) e = let clash : true ≡ false = sym (device_told at n device some) ∙ e in cc
+
+-- where the bytes lie of an access that passes
+module _ (tables : TablesState) (keeps : IsTables tables) (placed : All IsPlaced tables.site.images) (image at n trapped : ℕ) (right : Right)
+    (some : 1 ≤ n) (pass : passes (decided tables.site image Memory at n right trapped) ≡ true) where
+  in_memory : is_device_byte at ≡ false → InMemory tables.pages at n
+  in_memory e = memory_side tables.pages at n some (passed_where tables keeps placed image at n trapped right pass) e
+
+  pub place_fits : is_device_byte at ≡ false → (0x80000000 ≤ at) × (at ≤ 0x82000000)
+  place_fits e = let inside = in_memory e in (inside.from, omega (arith, inside.to))
+
+  pub are_stored : is_device_byte at ≡ false → AreStored tables at n (at - 0x80000000)
+  are_stored e =
+      let inside = in_memory e in
+      record { memory = e; place_is = refl; within = omega (arith, inside.from, inside.to, keeps.memory); live = inside.live }
+
+  pub are_of_device : is_device_byte at ≡ true → AreOfDevice at n
+  are_of_device e =
+      let inside = device_side tables.pages at n some (passed_where tables keeps placed image at n trapped right pass) e in
+      record { device = e; from = inside.from; to = inside.to }
 
 -- ---- memory after a write
 

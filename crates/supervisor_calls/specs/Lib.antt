@@ -1,4 +1,5 @@
 pub mod Accesses
+pub mod AccessesInside
 pub mod Deeds
 pub mod Domains
 pub mod Holdings

@@ -1,5 +1,5 @@
 //! Accesses of images to memory and to the device window, which a verdict has let pass.
-ghost use Rattle.std.specs.Prelude.{◌≡◌, ◌⊎◌, ◌<◌, ◌≤◌, ◌-◌, ◌+◌, ◌^◌, ◌++◌, true, Some, length, replicate, IfSome};
+ghost use Rattle.std.specs.Prelude.{◌≡◌, ◌⊎◌, ◌<◌, ◌≤◌, ◌-◌, ◌+◌, ◌^◌, ◌++◌, true, Some, length, replicate, IfSome, IfNone};
 ghost use Rattle.mm_base.specs.Bus.{IsAccessWidth};
 ghost use Rattle.mm_base.specs.Cells.{is_device_byte, is_msr};
 ghost use Rattle.mm_base.specs.Numbers.{number_of, low_bytes};
@@ -7,13 +7,14 @@ ghost use Rattle.mm_base.specs.declared.access.Kind.TheVariants as kinds;
 ghost use Rattle.mm_base.specs.declared.access.Right.TheVariants as rights;
 ghost use Rattle.secure_policy.specs.Laws.{passes};
 ghost use Rattle.platform_model.specs.Cells.{IsPortWidth};
+ghost use Rattle.supervisor_calls.specs.AccessesInside.{AreStored, AreOfDevice};
 ghost use Rattle.supervisor_calls.specs.Accesses.{decided, bytes_at, with_bytes, with_number, service_at as service_on, service_of};
 
 use crate::access::Access;
 use crate::bytes::{code_from, sixteen_from};
 use crate::tables::Tables;
 use mm_base::{
-    DEVICE_WINDOW, Frames, MMRAM, MOST_FETCHED, Region, SERVICES, Verdict, service_entry,
+    DEVICE_WINDOW, Frames, MMRAM, MOST_FETCHED, Region, Right, SERVICES, Verdict, service_entry,
 };
 
 /// Whether an address is one of the device window.
@@ -49,6 +50,22 @@ impl<F: Frames> Tables<F> {
             .decide(&self.images, image, kind, at, n, right, trapped)
     }
 
+    /// The place in memory of bytes that an image may access; none where they lie in the device window.
+    #[inline(always)]
+    fn place(&self, image: u32, right: Right, at: u64, n: u8, trapped: u64) -> Option<u32>
+        requires some { 1 ≤ n }
+        requires passes { passes (decided self.now.site image kinds.Memory at n right trapped) ≡ true }
+        ensures stored { IfSome result (AreStored self.now at n) }
+        ensures device { IfNone result (AreOfDevice at n) }
+    {
+        self.keeps();
+        if is_device(at) {
+            None
+        } else {
+            Some((at - MMRAM.base) as u32)
+        }
+    }
+
     /// The bytes of an instruction that an image may execute, in front of zeros.
     #[inline(always)]
     pub(crate) fn code(&self, image: u32, at: u64, n: u8, trapped: u64) -> [u8; MOST_FETCHED]
@@ -67,10 +84,9 @@ impl<F: Frames> Tables<F> {
         ensures { result ≡ bytes_at self.now.live at 16 }
     {
         self.keeps();
-        if is_device(at) {
-            self.platform.sixteen_bytes(at)
-        } else {
-            sixteen_from(&self.memory, (at - MMRAM.base) as u32)
+        match self.place(image, Right::Read, at, 16, trapped) {
+            Some(place) => sixteen_from(&self.memory, place),
+            None => self.platform.sixteen_bytes(at),
         }
     }
 
@@ -81,11 +97,9 @@ impl<F: Frames> Tables<F> {
         requires passes { passes (decided self.now.site image kinds.Memory at n rights.Read trapped) ≡ true }
         ensures { result ≡ number_of (bytes_at self.now.live at n) }
     {
-        self.keeps();
-        if is_device(at) {
-            self.platform.dev_read(at, n)
-        } else {
-            self.memory.read((at - MMRAM.base) as u32, n)
+        match self.place(image, Right::Read, at, n, trapped) {
+            Some(place) => self.memory.read(place, n),
+            None => self.platform.dev_read(at, n),
         }
     }
 
@@ -96,11 +110,9 @@ impl<F: Frames> Tables<F> {
         requires passes { passes (decided self.old.site image kinds.Memory at n rights.Write trapped) ≡ true }
         ensures { self.new ≡ record self.old { live = with_bytes at (low_bytes n value) self.old.live } }
     {
-        self.keeps();
-        if is_device(at) {
-            self.platform.dev_write(at, n, value);
-        } else {
-            self.memory.write((at - MMRAM.base) as u32, n, value);
+        match self.place(image, Right::Write, at, n, trapped) {
+            Some(place) => self.memory.write(place, n, value),
+            None => self.platform.dev_write(at, n, value),
         }
     }
 
