@@ -1,4 +1,5 @@
 pub mod ByteLemmas
 pub mod LawLemmas
+pub mod LetThrough
 pub mod TableLemmas
 pub mod WhereLemmas

@@ -1,12 +1,14 @@
 //! Services that register handlers and remove them.
 ghost use Rattle.std.specs.Prelude.{◌≡◌, false};
+ghost use Rattle.mm_base.specs.Bus.{Answers};
+ghost use Rattle.supervisor_calls.specs.ListingsInside.{root_or_seen};
 ghost use Rattle.supervisor_calls.specs.Services.{registration, unregistration};
 ghost use Rattle.supervisor_calls.specs.ServicesInside.{Does};
 
 use crate::domain::Domain;
+use crate::listings::RemovalEnd;
 use mm_base::status::{ACCESS_DENIED, INVALID_PARAMETER, NOT_FOUND, OUT_OF_RESOURCES, SUCCESS};
-use mm_base::{Frames, Guid, HandlerBody, Served};
-use mmi_registry::UnregisterEnd;
+use mm_base::{Frames, Guid, Served};
 
 impl<F: Frames> Domain<F> {
     /// Registers code of the image as a handler for the GUID at a pointer, or as a root handler where that is 0.
@@ -24,18 +26,16 @@ impl<F: Frames> Domain<F> {
         }
         let guid = self.guid_or_root(pointer)?;
         self.ask_out(out)?;
-        let body = HandlerBody::Code {
-            image: self.image,
-            address,
-        };
-        match self.tables.register(guid, body) {
+        match self.tables.register(guid, self.image, address) {
             Some(number) => Ok(self.give(out, number as u64 + 1)),
             None => Ok(OUT_OF_RESOURCES),
         }
     }
 
     /// The GUID at a pointer; none where that is 0.
-    fn guid_or_root(&mut self, pointer: u64) -> Result<Option<Guid>, Served> {
+    fn guid_or_root(&mut self, pointer: u64) -> Result<Option<Guid>, Served>
+        ensures { Answers (root_or_seen pointer self.old) result self.new }
+    {
         if pointer == 0 {
             return Ok(None);
         }
@@ -48,13 +48,13 @@ impl<F: Frames> Domain<F> {
         requires { self.old.tables.locked ≡ false }
         ensures { Does (unregistration self.old.image handle) self.old result self.new }
     {
-        if handle == 0 || handle > u32::MAX as u64 {
+        if handle == 0 || handle > self.tables.next_number() as u64 {
             return Ok(NOT_FOUND);
         }
         match self.tables.unregister((handle - 1) as u32, self.image) {
             Ok(()) => Ok(SUCCESS),
-            Err(UnregisterEnd::NotFound) => Ok(NOT_FOUND),
-            Err(_) => Ok(ACCESS_DENIED),
+            Err(RemovalEnd::NotFound) => Ok(NOT_FOUND),
+            Err(RemovalEnd::NotMine) => Ok(ACCESS_DENIED),
         }
     }
 }

@@ -1,39 +1,119 @@
-//! The handlers and the interfaces of all images, and cells that services write.
+//! The handlers and the interfaces of all images, until the lock.
+ghost use Rattle.std.specs.Prelude.{◌≡◌, ◌<◌, false, All, OnErr};
+ghost use Rattle.supervisor_calls.specs.ListingsInside.{Installs, interface_dropped, handler_dropped, registered};
+ghost use Rattle.mm_base.specs.declared.handler.HandlerBody.TheVariants.{Code};
+ghost use Rattle.mmi_registry.specs.Handlers.{handler_at};
+ghost use Rattle.protocol_db.specs.Rows.{row_with};
+
 use crate::tables::Tables;
-use mm_base::{Frames, Guid, HandlerBody};
-use mmi_registry::UnregisterEnd;
+use mm_base::{Frames, Guid, HandlerBody, NoMemory};
+use mmi_registry::{RegisterEnd, UnregisterEnd};
 use protocol_db::{InstallEnd, UninstallEnd};
 
+/// Why a handler or an interface was not removed.
+#[derive(Clone, Copy, Debug, PartialEq, Eq)]
+pub(crate) enum RemovalEnd {
+    /// It isn't there.
+    NotFound,
+    /// It is another image's, or built in.
+    NotMine,
+}
+
+/// Why an interface was not installed.
+#[derive(Clone, Copy, Debug, PartialEq, Eq)]
+pub(crate) enum ListingEnd {
+    /// The handle isn't there, or has an interface for the GUID.
+    Invalid,
+    /// It is one too many.
+    Full,
+    /// A growth was refused.
+    NoMemory(NoMemory),
+}
+
 impl<F: Frames> Tables<F> {
-    /// Registers a handler, and answers its number; None where it is one too many.
-    pub(crate) fn register(&mut self, guid: Option<Guid>, body: HandlerBody) -> Option<u32> {
-        self.registry.register(guid, body).ok()
+    /// Registers code of an image as a handler, and answers its number; None where it is one too many.
+    pub(crate) fn register(&mut self, guid: Option<Guid>, image: u32, address: u64) -> Option<u32>
+        requires open { self.old.locked ≡ false }
+        requires admitted { image < 32 }
+        ensures value { result ≡ (registered guid (Code image address) self.old.registry).0 }
+        ensures after { self.new ≡ record self.old { registry = (registered guid (Code image address) self.old.registry).1 } }
+    {
+        let body = HandlerBody::Code { image, address };
+        match self.registry.register(guid, body) {
+            Ok(number) => Some(number),
+            Err(RegisterEnd::Quota) => None,
+            Err(RegisterEnd::Frozen) => unreachable!(),
+        }
     }
 
-    /// Removes a handler.
-    pub(crate) fn unregister(&mut self, number: u32, image: u32) -> Result<(), UnregisterEnd> {
-        self.registry.unregister(number, image)
+    /// The number that the next handler gets. Those that there are lie below it.
+    pub(crate) fn next_number(&self) -> u32
+        ensures value { result ≡ self.now.registry.next }
+        ensures below { All (λ handler. handler.number < self.now.registry.next) self.now.registry.handlers }
+    {
+        self.registry.next_number()
     }
 
-    /// Installs an interface.
+    /// Removes a handler of an image.
+    pub(crate) fn unregister(&mut self, number: u32, image: u32) -> Result<(), RemovalEnd>
+        requires { self.old.locked ≡ false }
+        ensures value { let registry = self.old.registry in
+            result ≡ (handler_dropped image number registry (handler_at number registry.handlers)).0 }
+        ensures after { let registry = self.old.registry in
+            self.new ≡ record self.old {
+              registry = (handler_dropped image number registry (handler_at number registry.handlers)).1;
+            } }
+    {
+        match self.registry.unregister(number, image) {
+            Ok(()) => Ok(()),
+            Err(UnregisterEnd::NotFound) => Err(RemovalEnd::NotFound),
+            Err(UnregisterEnd::NotMine) => Err(RemovalEnd::NotMine),
+            Err(UnregisterEnd::Frozen) => unreachable!(),
+        }
+    }
+
+    /// Installs an interface of an image, and answers its handle.
     pub(crate) fn install(
         &mut self,
         handle: u64,
         guid: Guid,
         interface: u64,
         image: u32,
-    ) -> Result<u64, InstallEnd> {
-        self.protocols.install(handle, guid, interface, image)
+    ) -> Result<u64, ListingEnd>
+        requires { self.old.locked ≡ false }
+        ensures installs { Installs handle guid interface image self.old result self.new }
+        ensures err { OnErr result (self.new ≡ self.old) }
+    {
+        match self.protocols.install(handle, guid, interface, image) {
+            Ok(taken) => Ok(taken),
+            Err(InstallEnd::NoHandle | InstallEnd::Duplicate) => Err(ListingEnd::Invalid),
+            Err(InstallEnd::Quota) => Err(ListingEnd::Full),
+            Err(InstallEnd::NoMemory(refused)) => Err(ListingEnd::NoMemory(refused)),
+            Err(InstallEnd::Frozen) => unreachable!(),
+        }
     }
 
-    /// Removes an interface.
+    /// Removes an interface of an image.
     pub(crate) fn uninstall(
         &mut self,
         handle: u64,
         guid: Guid,
         interface: u64,
         image: u32,
-    ) -> Result<(), UninstallEnd> {
-        self.protocols.uninstall(handle, guid, interface, image)
+    ) -> Result<(), RemovalEnd>
+        requires { self.old.locked ≡ false }
+        ensures value { let protocols = self.old.protocols in
+            result ≡ (interface_dropped image handle guid protocols (row_with handle guid interface protocols.rows)).0 }
+        ensures after { let protocols = self.old.protocols in
+            self.new ≡ record self.old {
+              protocols = (interface_dropped image handle guid protocols (row_with handle guid interface protocols.rows)).1;
+            } }
+    {
+        match self.protocols.uninstall(handle, guid, interface, image) {
+            Ok(()) => Ok(()),
+            Err(UninstallEnd::NoProtocol) => Err(RemovalEnd::NotFound),
+            Err(UninstallEnd::NotMine) => Err(RemovalEnd::NotMine),
+            Err(UninstallEnd::Frozen) => unreachable!(),
+        }
     }
 }

@@ -1,0 +1,69 @@
+-- Words for private contracts of handlers and interfaces: what a change answers, and what is listed then.
+use Rattle.std.specs.Prelude.{◌≡◌, ◌⊎◌, ℕ, ◌||◌, ◌==◌, if◌then◌else◌, Option, Some, None, Result, Ok, Err}
+use Rattle.mm_base.specs.declared.bus.Served.{Served}
+use Rattle.mm_base.specs.declared.guid.Guid.{Guid}
+use Rattle.mm_base.specs.declared.handler.Handler.{Handler}
+use Rattle.mm_base.specs.declared.handler.HandlerBody.{HandlerBody}
+use Rattle.mmi_registry.specs.Handlers.{is_of, without_number}
+use Rattle.mmi_registry.specs.Registry as registry
+use Rattle.mmi_registry.specs.Registry.{RegistryState, with_handler}
+use Rattle.protocol_db.specs.ProtocolDb.{DbState, handle_for, is_at_limit, is_duplicate, is_unknown, with_row}
+use Rattle.protocol_db.specs.Rows.{is_owned_by, without_row}
+use Rattle.protocol_db.specs.declared.protocol_row.Row.{Row}
+use Rattle.supervisor_calls.specs.Deeds.{guid_seen}
+use Rattle.supervisor_calls.specs.Domains.{DomainState}
+use Rattle.supervisor_calls.specs.Tables.{TablesState}
+use Rattle.supervisor_calls.specs.declared.listings.ListingEnd.{ListingEnd}
+use Rattle.supervisor_calls.specs.declared.listings.ListingEnd.TheVariants.{Invalid, Full, NoMemory}
+use Rattle.supervisor_calls.specs.declared.listings.RemovalEnd.{RemovalEnd}
+use Rattle.supervisor_calls.specs.declared.listings.RemovalEnd.TheVariants.{NotFound, NotMine}
+
+-- a handler more: its number, or none where it is one too many
+abbrev pub registered : Option Guid → HandlerBody → RegistryState → Option ℕ × RegistryState
+registered guid body handlers =
+    if registry.is_at_limit body handlers then (None, handlers) else (Some handlers.next, with_handler guid body handlers)
+
+-- a handler less, where this one was found for the number
+abbrev pub handler_dropped : ℕ → ℕ → RegistryState → Option Handler → Result (Unit {0}) RemovalEnd × RegistryState
+handler_dropped image number handlers None = (Err NotFound, handlers)
+handler_dropped image number handlers (Some handler) =
+    if is_of image handler then (Ok tt, record handlers { handlers = without_number number handlers.handlers })
+    else (Err NotMine, handlers)
+
+-- an interface more: its handle
+abbrev pub installed : ℕ → Guid → ℕ → ℕ → DbState → Result ℕ ListingEnd × DbState
+installed handle guid interface image protocols =
+    if is_unknown handle protocols.rows || is_duplicate handle guid protocols.rows then (Err Invalid, protocols)
+    else if is_at_limit handle image protocols then (Err Full, protocols)
+    else (Ok (handle_for handle protocols.next), with_row handle guid interface image protocols)
+
+-- an interface less, where this row was found for the handle, the GUID and the interface
+abbrev pub interface_dropped : ℕ → ℕ → Guid → DbState → Option Row → Result (Unit {0}) RemovalEnd × DbState
+interface_dropped image handle guid protocols None = (Err NotFound, protocols)
+interface_dropped image handle guid protocols (Some row) =
+    if is_owned_by image row then (Ok tt, record protocols { rows = without_row handle guid protocols.rows })
+    else (Err NotMine, protocols)
+
+-- a growth was refused
+abbrev pub IsGrowthRefused : ListingEnd → Type 0
+IsGrowthRefused Invalid = ⊥
+IsGrowthRefused Full = ⊥
+IsGrowthRefused (NoMemory refused) = Unit {0}
+
+abbrev pub IsListingRefused : Result ℕ ListingEnd → Type 0
+IsListingRefused (Ok handle) = ⊥
+IsListingRefused (Err end) = IsGrowthRefused end
+
+-- tables with an interface more, or a growth was refused
+abbrev pub Installs : ℕ → Guid → ℕ → ℕ → TablesState → Result ℕ ListingEnd → TablesState → Type 0
+Installs handle guid interface image old answer new =
+    IsListingRefused answer ⊎ ((answer ≡ (installed handle guid interface image old.protocols).0)
+    × (new ≡ record old { protocols = (installed handle guid interface image old.protocols).1 }))
+
+-- the GUID at a pointer; none where that is 0
+abbrev pub named : Result Guid Served × DomainState → Result (Option Guid) Served × DomainState
+named (Ok guid, domain) = (Ok (Some guid), domain)
+named (Err served, domain) = (Err served, domain)
+
+abbrev pub root_or_seen : ℕ → DomainState → Result (Option Guid) Served × DomainState
+root_or_seen pointer domain = if pointer == 0 then (Ok None, domain) else named (guid_seen pointer domain)
