@@ -1,7 +1,7 @@
 //! Services that register handlers and remove them.
 ghost use Rattle.std.specs.Prelude.{◌≡◌, false};
 ghost use Rattle.mm_base.specs.Bus.{Answers};
-ghost use Rattle.supervisor_calls.specs.ListingsInside.{root_or_seen};
+ghost use Rattle.supervisor_calls.specs.ListingsInside.{code_registration, root_or_seen};
 ghost use Rattle.supervisor_calls.specs.Services.{registration, unregistration};
 ghost use Rattle.supervisor_calls.specs.ServicesInside.{Does};
 
@@ -25,6 +25,14 @@ impl<F: Frames> Domain<F> {
             return Ok(INVALID_PARAMETER);
         }
         let guid = self.guid_or_root(pointer)?;
+        self.register_code(guid, address, out)
+    }
+
+    /// Registers code of the image as a handler for a GUID, or as a root handler, and gives its handle.
+    fn register_code(&mut self, guid: Option<Guid>, address: u64, out: u64) -> Result<u64, Served>
+        requires { self.old.tables.locked ≡ false }
+        ensures { Does (code_registration self.old.image address out guid) self.old result self.new }
+    {
         self.ask_out(out)?;
         match self.tables.register(guid, self.image, address) {
             Some(number) => Ok(self.give(out, number as u64 + 1)),
@@ -48,7 +56,10 @@ impl<F: Frames> Domain<F> {
         requires { self.old.tables.locked ≡ false }
         ensures { Does (unregistration self.old.image handle) self.old result self.new }
     {
-        if handle == 0 || handle > self.tables.next_number() as u64 {
+        if handle == 0 {
+            return Ok(NOT_FOUND);
+        }
+        if handle > self.tables.next_number() as u64 {
             return Ok(NOT_FOUND);
         }
         match self.tables.unregister((handle - 1) as u32, self.image) {

@@ -76,7 +76,7 @@ impl<F: Frames> Domain<F> {
     {
         let guid = self.read_guid(pointer)?;
         self.ask_out(out)?;
-        match self.tables.protocols.handle_protocol(handle, guid) {
+        match self.tables.interface(handle, guid) {
             Ok(interface) => Ok(self.give(out, interface)),
             Err(FindEnd::NoHandle) => Ok(INVALID_PARAMETER),
             Err(FindEnd::NoProtocol) => Ok(UNSUPPORTED),

@@ -1,6 +1,6 @@
 //! The handlers and the interfaces of all images, until the lock.
-ghost use Rattle.std.specs.Prelude.{◌≡◌, ◌<◌, false, All, OnErr};
-ghost use Rattle.supervisor_calls.specs.ListingsInside.{Installs, interface_dropped, handler_dropped, registered};
+ghost use Rattle.std.specs.Prelude.{◌≡◌, ◌<◌, false, length, All, OnErr};
+ghost use Rattle.supervisor_calls.specs.ListingsInside.{Installs, interface_at, interface_dropped, handler_dropped, registered};
 ghost use Rattle.mm_base.specs.declared.handler.HandlerBody.TheVariants.{Code};
 ghost use Rattle.mmi_registry.specs.Handlers.{handler_at};
 ghost use Rattle.protocol_db.specs.Rows.{row_with};
@@ -8,7 +8,7 @@ ghost use Rattle.protocol_db.specs.Rows.{row_with};
 use crate::tables::Tables;
 use mm_base::{Frames, Guid, HandlerBody, NoMemory};
 use mmi_registry::{RegisterEnd, UnregisterEnd};
-use protocol_db::{InstallEnd, UninstallEnd};
+use protocol_db::{FindEnd, InstallEnd, UninstallEnd};
 
 /// Why a handler or an interface was not removed.
 #[derive(Clone, Copy, Debug, PartialEq, Eq)]
@@ -34,10 +34,11 @@ impl<F: Frames> Tables<F> {
     /// Registers code of an image as a handler, and answers its number; None where it is one too many.
     pub(crate) fn register(&mut self, guid: Option<Guid>, image: u32, address: u64) -> Option<u32>
         requires open { self.old.locked ≡ false }
-        requires admitted { image < 32 }
+        requires admitted { image < length self.old.site.images }
         ensures value { result ≡ (registered guid (Code image address) self.old.registry).0 }
         ensures after { self.new ≡ record self.old { registry = (registered guid (Code image address) self.old.registry).1 } }
     {
+        self.keeps();
         let body = HandlerBody::Code { image, address };
         match self.registry.register(guid, body) {
             Ok(number) => Some(number),
@@ -115,5 +116,11 @@ impl<F: Frames> Tables<F> {
             Err(UninstallEnd::NotMine) => Err(RemovalEnd::NotMine),
             Err(UninstallEnd::Frozen) => unreachable!(),
         }
+    }
+    /// The interface of a handle for a GUID.
+    pub(crate) fn interface(&self, handle: u64, guid: Guid) -> Result<u64, FindEnd>
+        ensures { result ≡ interface_at handle guid self.now.protocols.rows }
+    {
+        self.protocols.handle_protocol(handle, guid)
     }
 }
