@@ -1,10 +1,5 @@
-use Rattle.std.proofs.Common.{◌≡◌, ◌∙◌, ◌<◌, ap, sym, subst, All, arith}
-use Rattle.mm_base.specs.Statuses.{not_found}
-use Rattle.mm_base.specs.declared.bus.Served.TheVariants.{Status}
-use Rattle.mmi_registry.specs.Registry.{RegistryState}
-use Rattle.supervisor_calls.specs.Deeds.{done}
+use Rattle.std.proofs.Common.{◌<◌, ap, sym, subst, All, arith}
 use Rattle.supervisor_calls.specs.Domains.{DomainState}
-use Rattle.supervisor_calls.specs.Services.{unregistration}
 use Rattle.supervisor_calls.proofs.ListingLemmas.{unknown_handle}
 use Rattle.supervisor_calls.proofs.domain.Domain.unregister_handler.Goals as goal
 
