@@ -67,10 +67,12 @@ abbrev pub IsListingRefused : Result ℕ ListingEnd → Type 0
 IsListingRefused (Ok handle) = ⊥
 IsListingRefused (Err end) = IsGrowthRefused end
 
--- tables with an interface more, or a growth was refused
+-- Tables with an interface more. Where one would have come, a growth may have been refused; then nothing changes.
 abbrev pub Installs : ℕ → Guid → ℕ → ℕ → TablesState → Result ℕ ListingEnd → TablesState → Type 0
 Installs handle guid interface image old answer new =
-    IsListingRefused answer ⊎ ((answer ≡ (installed handle guid interface image old.protocols).0)
+    (IsListingRefused answer × (new ≡ old)
+    × ((installed handle guid interface image old.protocols).0 ≡ Ok (handle_for handle old.protocols.next)))
+    ⊎ ((answer ≡ (installed handle guid interface image old.protocols).0)
     × (new ≡ record old { protocols = (installed handle guid interface image old.protocols).1 }))
 
 -- the GUID at a pointer; none where that is 0

@@ -1,5 +1,5 @@
 //! The handlers and the interfaces of all images, until the lock.
-ghost use Rattle.std.specs.Prelude.{◌≡◌, ◌<◌, false, length, All, OnErr};
+ghost use Rattle.std.specs.Prelude.{◌≡◌, ◌<◌, false, length, All};
 ghost use Rattle.supervisor_calls.specs.ListingsInside.{Installs, interface_at, interface_dropped, handler_dropped, registered};
 ghost use Rattle.mm_base.specs.declared.handler.HandlerBody.TheVariants.{Code};
 ghost use Rattle.mmi_registry.specs.Handlers.{handler_at};
@@ -82,8 +82,7 @@ impl<F: Frames> Tables<F> {
         image: u32,
     ) -> Result<u64, ListingEnd>
         requires { self.old.locked ≡ false }
-        ensures installs { Installs handle guid interface image self.old result self.new }
-        ensures err { OnErr result (self.new ≡ self.old) }
+        ensures { Installs handle guid interface image self.old result self.new }
     {
         match self.protocols.install(handle, guid, interface, image) {
             Ok(taken) => Ok(taken),
