@@ -100,3 +100,24 @@ module _ (code : List ℕ) (n : ℕ) where
 -- a place further on
 pub further : (bytes : List ℕ) (at more n : ℕ) → take n (drop (at + more) bytes) ≡ take n (drop more (drop at bytes))
 further bytes at more n = ap (take n) (sym (drop-drop more at bytes))
+
+-- ---- two words one behind the other
+
+pub sixteen_are : (bytes : List ℕ) (at : ℕ) (first second one two : List ℕ) → at + 16 ≤ length bytes
+    → first ≡ take 8 (drop at bytes) ++ replicate (8 - 8) 0 → second ≡ take 8 (drop (at + 8) bytes) ++ replicate (8 - 8) 0
+    → one ≡ overwritten (replicate 16 0) 0 first → two ≡ overwritten one 8 second
+    → two ≡ take 16 (drop at bytes)
+sixteen_are bytes at first second one two within is-first is-second a b =
+    let code : List ℕ = drop at bytes in
+    let long : length code ≡ length bytes - at = length-drop at bytes in
+    let front : first ≡ take 8 code = is-first ∙ append-nil (take 8 code) in
+    let behind : second ≡ take 8 (drop 8 code) = is-second ∙ append-nil (take 8 (drop (at + 8) bytes)) ∙ further bytes at 8 8 in
+    let long-first : length first ≡ 8 = ap length front ∙ length-take-le 8 code (omega (arith, within, long)) in
+    let long-second : length second ≡ 8 = ap length behind ∙ length-take-le 8 (drop 8 code) (omega (arith, within, long, length-drop 8 code)) in
+    let e1 : one ≡ first ++ replicate 8 0 = a ∙ over_at [] (replicate 16 0) first 0 refl ∙ ap (λ (k : ℕ). first ++ drop k (replicate 16 0)) long-first in
+    b ∙ ap (λ (o : List ℕ). overwritten o 8 second) e1 ∙ over_at first (replicate 8 0) second 8 long-first
+    ∙ ap (λ (k : ℕ). (first ++ second) ++ drop k (replicate 8 0)) long-second
+    ∙ append-nil (first ++ second)
+    ∙ ap (λ (f : List ℕ). f ++ second) front
+    ∙ ap (λ (s : List ℕ). take 8 code ++ s) behind
+    ∙ sym (take-add 8 8 code)

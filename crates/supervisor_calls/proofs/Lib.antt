@@ -1,6 +1,9 @@
 pub mod ByteLemmas
+pub mod CellLemmas
+pub mod DeedLemmas
 pub mod LawLemmas
 pub mod LetThrough
 pub mod ListingLemmas
+pub mod ServiceLaws
 pub mod TableLemmas
 pub mod WhereLemmas

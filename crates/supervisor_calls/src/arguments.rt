@@ -1,5 +1,5 @@
 //! The arguments of a service, which stand on the stack of the image that calls it.
-ghost use Rattle.std.specs.Prelude.{◌≡◌};
+ghost use Rattle.std.specs.Prelude.{◌≡◌, OnOk};
 ghost use Rattle.mm_base.specs.Bus.{Answers};
 ghost use Rattle.supervisor_calls.specs.Services.{argument, arguments_at, argument_count};
 
@@ -48,7 +48,8 @@ pub(crate) fn count_of(service: Service) -> u8
 impl<F: Frames> Domain<F> {
     /// Argument `k` of `count`, from 0 on: the number in 8 bytes of the stack. A denied read stops the invocation.
     fn argument(&mut self, count: u8, stack: u64, k: u8) -> Result<u64, Served>
-        ensures { Answers (argument count stack k self.old) result self.new }
+        ensures answer { Answers (argument count stack k self.old) result self.new }
+        ensures same { OnOk result (self.new ≡ self.old) }
     {
         if k >= count {
             return Ok(0);
@@ -62,7 +63,8 @@ impl<F: Frames> Domain<F> {
 
     /// The `count` arguments from an address on, read one after another up to the first that is denied.
     pub(crate) fn arguments(&mut self, count: u8, stack: u64) -> Result<Arguments, Served>
-        ensures { Answers (arguments_at count stack self.old) result self.new }
+        ensures answer { Answers (arguments_at count stack self.old) result self.new }
+        ensures same { OnOk result (self.new ≡ self.old) }
     {
         let first = self.argument(count, stack, 0)?;
         let second = self.argument(count, stack, 1)?;

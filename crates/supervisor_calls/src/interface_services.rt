@@ -1,13 +1,13 @@
 //! Services of protocols: handles, their interfaces, and what is found by a GUID.
-ghost use Rattle.std.specs.Prelude.{◌≡◌, false, true, Ok};
-ghost use Rattle.mm_base.specs.Bus.{Answers};
+ghost use Rattle.std.specs.Prelude.{◌≡◌, false, true, Ok, OnOk};
+ghost use Rattle.mm_base.specs.Bus.{Answers, IsOutOfMemory};
 ghost use Rattle.mm_base.specs.Statuses.{not_found};
 ghost use Rattle.mm_base.specs.declared.access.Kind.TheVariants as kinds;
 ghost use Rattle.secure_policy.specs.Laws.{passes};
 ghost use Rattle.supervisor_calls.specs.Deeds.{guid_seen};
 ghost use Rattle.supervisor_calls.specs.Domains.{write_verdict};
 ghost use Rattle.supervisor_calls.specs.Services.{installation, removal, interface_of_handle, handle_of_index, first_interface, gives_found};
-ghost use Rattle.supervisor_calls.specs.ServicesInside.{Does, DoesOrRefuses};
+ghost use Rattle.supervisor_calls.specs.ServicesInside.{Does, DoesOrRefuses, spoken};
 
 use crate::domain::Domain;
 use crate::listings::{ListingEnd, RemovalEnd};
@@ -20,7 +20,8 @@ use protocol_db::FindEnd;
 impl<F: Frames> Domain<F> {
     /// The GUID in the 16 bytes at a pointer.
     pub(crate) fn read_guid(&mut self, pointer: u64) -> Result<Guid, Served>
-        ensures { Answers (guid_seen pointer self.old) result self.new }
+        ensures answer { Answers (guid_seen pointer self.old) result self.new }
+        ensures same { OnOk result (self.new ≡ self.old) }
     {
         self.pass_read(Kind::Memory, pointer, GUID_BYTES as u8)?;
         Ok(Guid(self.tables.sixteen(self.image, pointer, self.trapped())))
@@ -35,7 +36,8 @@ impl<F: Frames> Domain<F> {
         out: u64,
     ) -> Result<u64, Served>
         requires { self.old.tables.locked ≡ false }
-        ensures { DoesOrRefuses (installation self.old.image handle pointer interface out) self.old result self.new }
+        ensures answer { DoesOrRefuses (installation self.old.image handle pointer interface out) self.old result self.new }
+        ensures unchanged { IsOutOfMemory (spoken result) → self.new ≡ self.old }
     {
         let guid = self.read_guid(pointer)?;
         self.ask_out(out)?;

@@ -1,5 +1,5 @@
-//! Laws of accesses. These functions do nothing: their contracts are the laws.
-ghost use Rattle.supervisor_calls.specs.Laws.{PassesAtEachUnit, OwnPagesPass};
+//! Laws of accesses and services. These functions do nothing: their contracts are the laws.
+ghost use Rattle.supervisor_calls.specs.Laws.{PassesAtEachUnit, OwnPagesPass, ServicesGoAlong, ServicesLeaveAlone, ListsStayAfterLock};
 
 /// What passes, passes at each of its units.
 pub fn passes_unit_by_unit()
@@ -9,4 +9,19 @@ pub fn passes_unit_by_unit()
 /// Reads and writes of an image's own stack, communicate page, pool and reserve pass.
 pub fn own_pages_pass()
     ensures { OwnPagesPass }
+{}
+
+/// A map of domains that goes along with each thing that a service may do goes along with each whole service.
+pub fn services_go_along()
+    ensures { ServicesGoAlong }
+{}
+
+/// What each thing that a service may do leaves alone, each whole service leaves alone.
+pub fn services_leave_alone()
+    ensures { ServicesLeaveAlone }
+{}
+
+/// After lock no service changes the handlers or the interfaces.
+pub fn lists_stay_after_lock()
+    ensures { ListsStayAfterLock }
 {}
