@@ -1,16 +1,17 @@
 -- Words for private contracts of handlers and interfaces: what a change answers, and what is listed then.
-use Rattle.std.specs.Prelude.{◌≡◌, ◌⊎◌, ℕ, ◌+◌, ◌||◌, ◌==◌, if◌then◌else◌, List, Option, Some, None, Result, Ok, Err}
+use Rattle.std.specs.Prelude.{◌≡◌, ◌⊎◌, ℕ, ◌+◌, ◌||◌, ◌==◌, if◌then◌else◌}
+use Rattle.std.specs.Prelude.{List, Option, Some, None, Result, Ok, Err}
 use Rattle.mm_base.specs.Statuses.{out_of_resources}
 use Rattle.mm_base.specs.declared.bus.Served.{Served}
 use Rattle.mm_base.specs.declared.guid.Guid.{Guid}
 use Rattle.mm_base.specs.declared.handler.Handler.{Handler}
 use Rattle.mm_base.specs.declared.handler.HandlerBody.{HandlerBody}
 use Rattle.mm_base.specs.declared.handler.HandlerBody.TheVariants.{Code}
-use Rattle.mmi_registry.specs.Handlers.{is_of, without_number}
+use Rattle.mmi_registry.specs.Handlers.{handler_at, is_of, without_number}
 use Rattle.mmi_registry.specs.Registry as registry
 use Rattle.mmi_registry.specs.Registry.{RegistryState, with_handler}
 use Rattle.protocol_db.specs.ProtocolDb.{DbState, handle_for, is_at_limit, is_duplicate, is_unknown, with_row}
-use Rattle.protocol_db.specs.Rows.{has_handle, is_owned_by, row_at, without_row}
+use Rattle.protocol_db.specs.Rows.{has_handle, is_owned_by, row_at, row_with, without_row}
 use Rattle.protocol_db.specs.declared.database.FindEnd.{FindEnd}
 use Rattle.protocol_db.specs.declared.database.FindEnd.TheVariants.{NoHandle, NoProtocol}
 use Rattle.protocol_db.specs.declared.protocol_row.Row.{Row}
@@ -26,14 +27,18 @@ use Rattle.supervisor_calls.specs.declared.listings.RemovalEnd.TheVariants.{NotF
 -- a handler more: its number, or none where it is one too many
 abbrev pub registered : Option Guid → HandlerBody → RegistryState → Option ℕ × RegistryState
 registered guid body handlers =
-    if registry.is_at_limit body handlers then (None, handlers) else (Some handlers.next, with_handler guid body handlers)
+    if registry.is_at_limit body handlers then (None, handlers)
+    else (Some handlers.next, with_handler guid body handlers)
 
--- a handler less, where this one was found for the number
+-- a handler less, which only its own image may remove, where this one was found
 abbrev pub handler_dropped : ℕ → ℕ → RegistryState → Option Handler → Result (Unit {0}) RemovalEnd × RegistryState
 handler_dropped image number handlers None = (Err NotFound, handlers)
 handler_dropped image number handlers (Some handler) =
     if is_of image handler then (Ok tt, record handlers { handlers = without_number number handlers.handlers })
     else (Err NotMine, handlers)
+
+abbrev pub unregistered : ℕ → ℕ → RegistryState → Result (Unit {0}) RemovalEnd × RegistryState
+unregistered number image handlers = handler_dropped image number handlers (handler_at number handlers.handlers)
 
 -- an interface more: its handle
 abbrev pub installed : ℕ → Guid → ℕ → ℕ → DbState → Result ℕ ListingEnd × DbState
@@ -42,12 +47,16 @@ installed handle guid interface image protocols =
     else if is_at_limit handle image protocols then (Err Full, protocols)
     else (Ok (handle_for handle protocols.next), with_row handle guid interface image protocols)
 
--- an interface less, where this row was found for the handle, the GUID and the interface
+-- an interface less, which only the image that installed it may remove, where this row was found
 abbrev pub interface_dropped : ℕ → ℕ → Guid → DbState → Option Row → Result (Unit {0}) RemovalEnd × DbState
 interface_dropped image handle guid protocols None = (Err NotFound, protocols)
 interface_dropped image handle guid protocols (Some row) =
     if is_owned_by image row then (Ok tt, record protocols { rows = without_row handle guid protocols.rows })
     else (Err NotMine, protocols)
+
+abbrev pub uninstalled : ℕ → Guid → ℕ → ℕ → DbState → Result (Unit {0}) RemovalEnd × DbState
+uninstalled handle guid interface image protocols =
+    interface_dropped image handle guid protocols (row_with handle guid interface protocols.rows)
 
 -- the interface of a handle for a GUID, or why there is none
 abbrev pub interface_of : Option Row → Result ℕ FindEnd

@@ -51,7 +51,7 @@ impl<F: Frames> Domain<F> {
         Ok(Some(guid))
     }
 
-    /// Removes the handler with this handle, which is its number + 1.
+    /// Removes the handler with this handle, which is its number + 1. The next number is above all that there are.
     pub(crate) fn unregister_handler(&mut self, handle: u64) -> Result<u64, Served>
         requires { self.old.tables.locked ≡ false }
         ensures { Does (unregistration self.old.image handle) self.old result self.new }

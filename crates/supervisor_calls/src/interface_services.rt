@@ -6,7 +6,8 @@ ghost use Rattle.mm_base.specs.declared.access.Kind.TheVariants as kinds;
 ghost use Rattle.secure_policy.specs.Laws.{passes};
 ghost use Rattle.supervisor_calls.specs.Deeds.{guid_seen};
 ghost use Rattle.supervisor_calls.specs.Domains.{write_verdict};
-ghost use Rattle.supervisor_calls.specs.Services.{installation, removal, interface_of_handle, handle_of_index, first_interface, gives_found};
+ghost use Rattle.supervisor_calls.specs.Services.{installation, removal, gives_found};
+ghost use Rattle.supervisor_calls.specs.Services.{first_interface, handle_of_index, interface_of_handle};
 ghost use Rattle.supervisor_calls.specs.ServicesInside.{Does, DoesOrRefuses, spoken};
 
 use crate::domain::Domain;

@@ -1,9 +1,7 @@
 //! The handlers and the interfaces of all images, until the lock.
 ghost use Rattle.std.specs.Prelude.{◌≡◌, ◌<◌, false, length, All};
-ghost use Rattle.supervisor_calls.specs.ListingsInside.{Installs, interface_at, interface_dropped, handler_dropped, registered};
 ghost use Rattle.mm_base.specs.declared.handler.HandlerBody.TheVariants.{Code};
-ghost use Rattle.mmi_registry.specs.Handlers.{handler_at};
-ghost use Rattle.protocol_db.specs.Rows.{row_with};
+ghost use Rattle.supervisor_calls.specs.ListingsInside.{Installs, interface_at, registered, uninstalled, unregistered};
 
 use crate::tables::Tables;
 use mm_base::{Frames, Guid, HandlerBody, NoMemory};
@@ -36,7 +34,8 @@ impl<F: Frames> Tables<F> {
         requires open { self.old.locked ≡ false }
         requires admitted { image < length self.old.site.images }
         ensures value { result ≡ (registered guid (Code image address) self.old.registry).0 }
-        ensures after { self.new ≡ record self.old { registry = (registered guid (Code image address) self.old.registry).1 } }
+        ensures after { let told = registered guid (Code image address) self.old.registry in
+            self.new ≡ record self.old { registry = told.1 } }
     {
         self.keeps();
         let body = HandlerBody::Code { image, address };
@@ -58,12 +57,8 @@ impl<F: Frames> Tables<F> {
     /// Removes a handler of an image.
     pub(crate) fn unregister(&mut self, number: u32, image: u32) -> Result<(), RemovalEnd>
         requires { self.old.locked ≡ false }
-        ensures value { let registry = self.old.registry in
-            result ≡ (handler_dropped image number registry (handler_at number registry.handlers)).0 }
-        ensures after { let registry = self.old.registry in
-            self.new ≡ record self.old {
-              registry = (handler_dropped image number registry (handler_at number registry.handlers)).1;
-            } }
+        ensures value { result ≡ (unregistered number image self.old.registry).0 }
+        ensures after { self.new ≡ record self.old { registry = (unregistered number image self.old.registry).1 } }
     {
         match self.registry.unregister(number, image) {
             Ok(()) => Ok(()),
@@ -73,7 +68,7 @@ impl<F: Frames> Tables<F> {
         }
     }
 
-    /// Installs an interface of an image, and answers its handle.
+    /// Installs an interface of an image, and answers its handle. It is the one that takes memory.
     pub(crate) fn install(
         &mut self,
         handle: u64,
@@ -102,12 +97,9 @@ impl<F: Frames> Tables<F> {
         image: u32,
     ) -> Result<(), RemovalEnd>
         requires { self.old.locked ≡ false }
-        ensures value { let protocols = self.old.protocols in
-            result ≡ (interface_dropped image handle guid protocols (row_with handle guid interface protocols.rows)).0 }
-        ensures after { let protocols = self.old.protocols in
-            self.new ≡ record self.old {
-              protocols = (interface_dropped image handle guid protocols (row_with handle guid interface protocols.rows)).1;
-            } }
+        ensures value { result ≡ (uninstalled handle guid interface image self.old.protocols).0 }
+        ensures after { let told = uninstalled handle guid interface image self.old.protocols in
+            self.new ≡ record self.old { protocols = told.1 } }
     {
         match self.protocols.uninstall(handle, guid, interface, image) {
             Ok(()) => Ok(()),
@@ -116,6 +108,7 @@ impl<F: Frames> Tables<F> {
             Err(UninstallEnd::Frozen) => unreachable!(),
         }
     }
+
     /// The interface of a handle for a GUID.
     pub(crate) fn interface(&self, handle: u64, guid: Guid) -> Result<u64, FindEnd>
         ensures { result ≡ interface_at handle guid self.now.protocols.rows }
