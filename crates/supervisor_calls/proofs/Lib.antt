@@ -3,6 +3,7 @@ pub mod CellLemmas
 pub mod DeedLemmas
 pub mod LawLemmas
 pub mod LetThrough
+pub mod ListingLemmas
 pub mod ServiceLaws
 pub mod TableLemmas
 pub mod WhereLemmas

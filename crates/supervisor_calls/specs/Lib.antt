@@ -4,6 +4,7 @@ pub mod Deeds
 pub mod Domains
 pub mod Holdings
 pub mod Laws
+pub mod ListingsInside
 pub mod Services
 pub mod ServicesInside
 pub mod Tables

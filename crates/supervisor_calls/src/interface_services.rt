@@ -1,16 +1,22 @@
 //! Services of protocols: handles, their interfaces, and what is found by a GUID.
-ghost use Rattle.std.specs.Prelude.{◌≡◌, false, OnOk};
+ghost use Rattle.std.specs.Prelude.{◌≡◌, false, true, Ok, OnOk};
 ghost use Rattle.mm_base.specs.Bus.{Answers, IsOutOfMemory};
+ghost use Rattle.mm_base.specs.Statuses.{not_found};
+ghost use Rattle.mm_base.specs.declared.access.Kind.TheVariants as kinds;
+ghost use Rattle.secure_policy.specs.Laws.{passes};
 ghost use Rattle.supervisor_calls.specs.Deeds.{guid_seen};
-ghost use Rattle.supervisor_calls.specs.Services.{installation, removal, interface_of_handle, handle_of_index, first_interface, gives_found};
+ghost use Rattle.supervisor_calls.specs.Domains.{write_verdict};
+ghost use Rattle.supervisor_calls.specs.Services.{installation, removal, gives_found};
+ghost use Rattle.supervisor_calls.specs.Services.{first_interface, handle_of_index, interface_of_handle};
 ghost use Rattle.supervisor_calls.specs.ServicesInside.{Does, DoesOrRefuses, spoken};
 
 use crate::domain::Domain;
+use crate::listings::{ListingEnd, RemovalEnd};
 use mm_base::status::{
     ACCESS_DENIED, INVALID_PARAMETER, NOT_FOUND, OUT_OF_RESOURCES, SUCCESS, UNSUPPORTED,
 };
 use mm_base::{Frames, GUID_BYTES, Guid, Kind, Served};
-use protocol_db::{FindEnd, InstallEnd, UninstallEnd};
+use protocol_db::FindEnd;
 
 impl<F: Frames> Domain<F> {
     /// The GUID in the 16 bytes at a pointer.
@@ -38,9 +44,9 @@ impl<F: Frames> Domain<F> {
         self.ask_out(out)?;
         match self.tables.install(handle, guid, interface, self.image) {
             Ok(taken) => Ok(self.give(out, taken)),
-            Err(InstallEnd::NoHandle | InstallEnd::Duplicate) => Ok(INVALID_PARAMETER),
-            Err(InstallEnd::NoMemory(refused)) => Err(Served::NoMemory(refused)),
-            Err(_) => Ok(OUT_OF_RESOURCES),
+            Err(ListingEnd::Invalid) => Ok(INVALID_PARAMETER),
+            Err(ListingEnd::Full) => Ok(OUT_OF_RESOURCES),
+            Err(ListingEnd::NoMemory(refused)) => Err(Served::NoMemory(refused)),
         }
     }
 
@@ -57,8 +63,8 @@ impl<F: Frames> Domain<F> {
         let guid = self.read_guid(pointer)?;
         match self.tables.uninstall(handle, guid, interface, self.image) {
             Ok(()) => Ok(SUCCESS),
-            Err(UninstallEnd::NoProtocol) => Ok(NOT_FOUND),
-            Err(_) => Ok(ACCESS_DENIED),
+            Err(RemovalEnd::NotFound) => Ok(NOT_FOUND),
+            Err(RemovalEnd::NotMine) => Ok(ACCESS_DENIED),
         }
     }
 
@@ -73,7 +79,7 @@ impl<F: Frames> Domain<F> {
     {
         let guid = self.read_guid(pointer)?;
         self.ask_out(out)?;
-        match self.tables.protocols.handle_protocol(handle, guid) {
+        match self.tables.interface(handle, guid) {
             Ok(interface) => Ok(self.give(out, interface)),
             Err(FindEnd::NoHandle) => Ok(INVALID_PARAMETER),
             Err(FindEnd::NoProtocol) => Ok(UNSUPPORTED),
@@ -106,7 +112,10 @@ impl<F: Frames> Domain<F> {
     }
 
     /// Gives what was found, at an out pointer that was asked for.
-    fn give_found(&mut self, out: u64, found: Option<u64>) -> u64 {
+    fn give_found(&mut self, out: u64, found: Option<u64>) -> u64
+        requires { passes (write_verdict self.old kinds.Memory out 8) ≡ true }
+        ensures { Does (gives_found out not_found found) self.old (Ok result) self.new }
+    {
         match found {
             Some(value) => self.give(out, value),
             None => NOT_FOUND,
