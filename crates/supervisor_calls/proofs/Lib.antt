@@ -1,4 +1,8 @@
 pub mod ByteLemmas
+pub mod HoldingLemmas
+pub mod HoldingSteps
 pub mod LawLemmas
+pub mod LetThrough
+pub mod LowestLemmas
 pub mod TableLemmas
 pub mod WhereLemmas

@@ -2,6 +2,7 @@ pub mod Accesses
 pub mod Deeds
 pub mod Domains
 pub mod Holdings
+pub mod HoldingsInside
 pub mod Laws
 pub mod Services
 pub mod ServicesInside
