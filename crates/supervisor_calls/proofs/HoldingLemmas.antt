@@ -13,7 +13,7 @@ use Rattle.pool_tree.proofs.SizeLemmas.{size_exists, size_unique}
 use Rattle.supervisor_calls.specs.Holdings.{lowest_below, size_for, is_apart, may_lie, block_of_size, next_block, is_live_at, are_taken, are_free, next_run, page_at, are_taken_at}
 use Rattle.supervisor_calls.proofs.LowestLemmas.{lowest_is, lowest_none, size_is, size_none}
 
-decides_le : (a b : ℕ) → Decides (leb a b) (a ≤ b)
+pub decides_le : (a b : ℕ) → Decides (leb a b) (a ≤ b)
 decides_le a b = (λ e. grind (arith, nat_tests, e), λ h. grind (arith, nat_tests, h))
 
 -- ---- places of blocks

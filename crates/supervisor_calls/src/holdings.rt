@@ -55,6 +55,7 @@ impl<F: Frames> Tables<F> {
         requires some { 1 ≤ pages }
         ensures { Answers (run_taken image pages (next_run (reserve_at image self.old) pages) self.old) result self.new }
     {
+        self.keeps();
         if pages > RESERVE_PAGES as u64 {
             return None;
         }
