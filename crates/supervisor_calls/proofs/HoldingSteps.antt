@@ -5,7 +5,7 @@ use Rattle.std.specs.Result.{is_ok}
 use Rattle.std.proofs.lemmas.Bool.{and_left, and_from, and_right}
 use Rattle.std.specs.List.{slice_get}
 use Rattle.std.specs.Option.{option_map_or}
-use Rattle.std.proofs.lemmas.Bool.Decides.{nat_tests, Decides-and, Decides-eqb, Decides-like}
+use Rattle.std.proofs.lemmas.Bool.Decides.{nat_tests, same_from_decides, Decides-and, Decides-eqb, Decides-like}
 use Rattle.std.proofs.lemmas.List.{get_or_default, set-get_or}
 use Rattle.std.proofs.lemmas.List.{length-append, length-drop, length-replicate, length-take-le, length-set}
 use Rattle.std.proofs.lemmas.List.Elements.{All-append, All-drop, All-replicate, All-set, All-take}
@@ -173,9 +173,9 @@ none_is_taken tables now image n same there sixteen more =
     subst Q same (subst P (sym (run_none (reserve_at image tables) n none)) (refl, refl))
 
 -- a reserve has as many pages after a run of it was taken
-pub takes_as_long : (n : ℕ) (reserve after : List Bool) (result : Option ℕ) → TakesRun n reserve after result → length after ≡ length reserve
-takes_as_long n reserve after None asks = ap length asks.unchanged
-takes_as_long n reserve after (Some start) asks = ap length asks.taken ∙ length-with_run true start n reserve asks.lowest.run.inside
+pub takes_as_long : (n : ℕ) (before after : List Bool) (result : Option ℕ) → TakesRun n before after result → length after ≡ length before
+takes_as_long n before after None asks = ap length asks.unchanged
+takes_as_long n before after (Some start) asks = ap length asks.taken ∙ length-with_run true start n before asks.lowest.run.inside
 
 -- tables keep what they keep where a reserve of 16 pages is put
 pub reserve_keeps : (tables : TablesState) (image : ℕ) (after : List Bool) → IsTables tables → length after ≡ 16 → IsTables (reserve_put image after tables)
@@ -289,3 +289,64 @@ module _ (tables : TablesState) (keeps : IsTables tables) (placed : All IsPlaced
       begins ∙ ap (λ (f : Option PlacedImage). (reserve_of (option_map_or (λ (p : PlacedImage). p.region) f (record { base = 0; pages = 0 }))).base) is in
       subst P (sym is)
       (lies_there address n found is ((decides_given (reserve_of found.region).base (reserve_at image tables) address n).0 (subst Q same taken))))
+
+-- the answer of a reserve that was asked whether pages are taken
+pub given_by : (answer : Bool) (base : ℕ) (reserve : List Bool) (address n : ℕ) → base ≤ address → (address - base) % 4096 ≡ 0
+    → IsTrue answer ↔ AreTaken reserve (page_at base address) n → answer ≡ are_taken_at base reserve address n
+given_by answer base reserve address n from whole both =
+    same_from_decides answer (are_taken_at base reserve address n)
+    (Decides-like answer (λ taken. record { from = from; whole = whole; taken = taken }) (λ (given : Given base reserve address n). given.taken) both)
+    (decides_given base reserve address n)
+
+-- pages of an image's reserve that may be given back
+pub record MayGive (tables : TablesState) (image base address n : ℕ) : Type 0 where
+  pub keeps : IsTables tables
+  pub long : length (reserve_at image tables) ≡ 16
+  pub there : image < length tables.live.reserves
+  pub given : Given base (reserve_at image tables) address n
+  pub lies : LiesThere (region_at image tables) tables.pages address (4096 * n)
+
+pub may_give : (tables now : TablesState) (image base address n : ℕ) (before : List Bool) (answer : Bool)
+    → tables ≡ now → IsTables now → All IsPlaced now.site.images → image < length now.site.images
+    → base ≡ (reserve_of (region_at image now)).base → before ≡ get_or tables.live.reserves image before
+    → answer ≡ are_taken_at base before address n → answer ≡ true → MayGive tables image base address n
+may_give tables now image base address n before answer same keeps placed there begins is told yes_it =
+    let P : TablesState → Type 0 = λ t. before ≡ get_or t.live.reserves image before in
+    let held : image < length now.live.reserves = omega (arith, there, keeps.reserves) in
+    let here : before ≡ reserve_at image now = subst P same is ∙ get_or_default now.live.reserves image before [] held in
+    let taken : are_taken_at base (reserve_at image now) address n ≡ true =
+    ap (λ (r : List Bool). are_taken_at base r address n) (sym here) ∙ sym told ∙ yes_it in
+    let Q : TablesState → Type 0 = λ t. MayGive t image base address n in
+    subst Q (sym same) (record {
+      keeps = keeps;
+      long = sixteen_pages now keeps placed image there;
+      there = held;
+      given = (decides_given base (reserve_at image now) address n).0 taken;
+      lies = lies_in_reserve now keeps placed image there base address n begins taken;
+    })
+
+module _ (tables : TablesState) (image base address n : ℕ) (may : MayGive tables image base address n) where
+  pub may_be_given : (before : List Bool) → before ≡ get_or tables.live.reserves image before → AreTaken before (page_at base address) n
+  may_be_given before is =
+      let here : before ≡ reserve_at image tables = is ∙ get_or_default tables.live.reserves image before [] may.there in
+      let P : List Bool → Type 0 = λ r. AreTaken r (page_at base address) n in
+      subst P (sym here) may.given.taken
+
+  pub given_long : (before after : List Bool) → before ≡ get_or tables.live.reserves image before
+      → after ≡ with_run false (page_at base address) n before → length after ≡ 16
+  given_long before after is given =
+      let here : before ≡ reserve_at image tables = is ∙ get_or_default tables.live.reserves image before [] may.there in
+      ap length given ∙ length-with_run false (page_at base address) n before (may_be_given before is).inside ∙ ap length here ∙ may.long
+
+  pub within_memory : address - 0x80000000 + 4096 * n ≤ length tables.live.memory
+  within_memory = omega (arith, may.lies.memory.from, may.lies.memory.to, may.keeps.memory)
+
+  pub given_keeps : (bytes : List ℕ) (pages after : List Bool) → bytes ≡ overwritten tables.live.memory (address - 0x80000000) (zeros (4096 * n))
+      → pages ≡ tables.pages → length after ≡ 16
+      → IsTables (record (reserve_put image after (record tables { live = record tables.live { memory = bytes } })) { pages = pages })
+  given_keeps bytes pages after is same long =
+      let P : List ℕ → Type 0 = λ b. IsTables (reserve_put image after (record tables { live = record tables.live { memory = b } })) in
+      let Q : List Bool → Type 0 =
+      λ p. IsTables (record (reserve_put image after (record tables { live = record tables.live { memory = bytes } })) { pages = p }) in
+      subst Q (sym same)
+      (subst P (sym is) (reserve_keeps (cleared address (4096 * n) tables) image after (cleared_keeps tables address (4096 * n) may.keeps within_memory) long))

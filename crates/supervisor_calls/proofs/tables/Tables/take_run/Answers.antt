@@ -1,5 +1,4 @@
-use Rattle.std.proofs.Common.{◌≡◌, ℕ, ◌<◌, ◌∙◌, List, Bool, [], length, refl, ap, arith}
-use Rattle.std.proofs.lemmas.List.{get_or_default}
+use Rattle.std.proofs.Common.{◌≡◌, ℕ, ◌<◌, ◌∙◌, List, Bool, length, refl, ap, arith}
 use Rattle.supervisor_calls.specs.Tables.{TablesState}
 use Rattle.supervisor_calls.proofs.HoldingSteps.{run_is_taken, none_is_taken, takes_as_long, reserve_keeps}
 use Rattle.supervisor_calls.proofs.tables.Tables.take_run.Goals as goal
@@ -10,7 +9,10 @@ index_mut-requires g c =
     omega (arith, images, c.requires.there, c.self.invariant.keeps.reserves, c.self.inside.reserves.ok.0)
 
 pub returns-then-pages : goal.returns-then-pages
-returns-then-pages g c = ?
+returns-then-pages g c =
+    let keeps = c.keeps.ensures.tables in
+    let there : c.args.image < length c.args.self.now.live.reserves = omega (arith, keeps.reserves, c.requires.there) in
+    none_is_taken c.args.self.now c.args.self.now c.args.image c.args.pages refl there keeps.sixteen c.if-pages.true
 
 pub invariant_of-self : goal.invariant_of-self
 invariant_of-self g c =
