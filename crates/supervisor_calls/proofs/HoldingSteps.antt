@@ -241,7 +241,7 @@ decides_given base reserve address n =
     (Decides-and _ _ (decides_le base address) (Decides-and _ _ (Decides-eqb ((address - base) % 4096) 0) (decides_taken reserve (page_at base address) n)))
 
 -- an image that is there
-of_there : (P : Type 0) (images : List PlacedImage) (image : ℕ) → image < length images
+pub of_there : (P : Type 0) (images : List PlacedImage) (image : ℕ) → image < length images
     → ((placed : PlacedImage) → slice_get images image ≡ Some placed → P) → P
 of_there P [] image there each = absurd (omega (arith, there))
 of_there P (first ∷ images) zero there each = each first refl

@@ -4,5 +4,6 @@ pub mod HoldingSteps
 pub mod LawLemmas
 pub mod LetThrough
 pub mod LowestLemmas
+pub mod ReleaseLemmas
 pub mod TableLemmas
 pub mod WhereLemmas

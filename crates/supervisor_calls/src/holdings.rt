@@ -1,7 +1,7 @@
 //! What images hold: blocks of their pools, and pages of their reserves.
-ghost use Rattle.std.specs.Prelude.{◌≡◌, ◌<◌, ◌≤◌, ◌-◌, ◌*◌, true, length};
+ghost use Rattle.std.specs.Prelude.{◌≡◌, ◌<◌, ◌≤◌, ◌-◌, ◌+◌, ◌*◌, length};
 ghost use Rattle.mm_base.specs.Bus.{Answers};
-ghost use Rattle.mm_base.specs.Regions.{IsAddressable, reserve_of};
+ghost use Rattle.mm_base.specs.Regions.{reserve_of};
 ghost use Rattle.supervisor_calls.specs.Holdings.{next_block, is_live_at, next_run, are_taken_at};
 ghost use Rattle.supervisor_calls.specs.HoldingsInside.{block_taken, block_freed, run_taken, run_given, pool_at, reserve_at, region_at};
 ghost use Rattle.supervisor_calls.specs.Services.{region_in};
@@ -88,7 +88,7 @@ impl<F: Frames> Domain<F> {
     /// The region of the image.
     pub(crate) fn region(&self) -> Region
         ensures value { result ≡ region_in self.now }
-        ensures fits { IsAddressable result }
+        ensures within { result.base + 4096 * (result.pages + 38) ≤ 0x82000000 }
     {
         self.tables.keeps();
         Region {
