@@ -1,9 +1,13 @@
 pub mod ByteLemmas
 pub mod CellLemmas
 pub mod DeedLemmas
+pub mod HoldingLemmas
+pub mod HoldingSteps
 pub mod LawLemmas
 pub mod LetThrough
 pub mod ListingLemmas
+pub mod LowestLemmas
+pub mod ReleaseLemmas
 pub mod ServiceLaws
 pub mod TableLemmas
 pub mod WhereLemmas

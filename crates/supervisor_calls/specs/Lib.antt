@@ -3,6 +3,7 @@ pub mod AccessesInside
 pub mod Deeds
 pub mod Domains
 pub mod Holdings
+pub mod HoldingsInside
 pub mod Laws
 pub mod ListingsInside
 pub mod Services

@@ -32,6 +32,7 @@ impl<F: Frames> Domain<F> {
         if pages == 0 || address % PAGE_BYTES as u64 != 0 {
             return Ok(INVALID_PARAMETER);
         }
+        self.tables.keeps();
         let reserve = self.region().reserve();
         if self.tables.give_run(self.image, reserve.base, address, pages) {
             Ok(SUCCESS)

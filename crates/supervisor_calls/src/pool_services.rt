@@ -28,10 +28,7 @@ impl<F: Frames> Domain<F> {
         ensures { Does (pool_release (region_in self.old) address) self.old result self.new }
     {
         let arena = self.region().pool();
-        if address < arena.base {
-            return Ok(NOT_FOUND);
-        }
-        if self.tables.free_block(self.image, address - arena.base) {
+        if self.tables.free_block(self.image, arena.base, address) {
             Ok(SUCCESS)
         } else {
             Ok(NOT_FOUND)
