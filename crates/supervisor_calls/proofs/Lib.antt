@@ -4,7 +4,6 @@ pub mod DeedLemmas
 pub mod HoldingLemmas
 pub mod HoldingSteps
 pub mod LawLemmas
-pub mod LetThrough
 pub mod ListingLemmas
 pub mod LowestLemmas
 pub mod ReleaseLemmas

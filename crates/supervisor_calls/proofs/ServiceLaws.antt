@@ -217,11 +217,13 @@ module _ (first : DomainState) where
   -- of a domain whether it is locked, and then its handlers and interfaces
   lists : DomainState → DomainState
   lists domain =
-      record first { tables = record first.tables {
-        registry = if domain.tables.locked then domain.tables.registry else first.tables.registry;
-        protocols = if domain.tables.locked then domain.tables.protocols else first.tables.protocols;
-        locked = domain.tables.locked;
-      } }
+      record first {
+        tables = record first.tables {
+          registry = if domain.tables.locked then domain.tables.registry else first.tables.registry;
+          protocols = if domain.tables.locked then domain.tables.protocols else first.tables.protocols;
+          locked = domain.tables.locked;
+        };
+      }
 
   let_through_left : {A : Type 0} (verdict : Verdict) (denial : Why → Denial) (value : A) (after domain : DomainState) → lists after ≡ lists domain
       → lists (let_through verdict denial value after domain).1 ≡ lists domain
@@ -235,11 +237,13 @@ module _ (first : DomainState) where
     where
       with : Bool → RegistryState → DomainState
       with locked registry =
-          record first { tables = record first.tables {
-            registry = if locked then registry else first.tables.registry;
-            protocols = if locked then domain.tables.protocols else first.tables.protocols;
-            locked = domain.tables.locked;
-          } }
+          record first {
+            tables = record first.tables {
+              registry = if locked then registry else first.tables.registry;
+              protocols = if locked then domain.tables.protocols else first.tables.protocols;
+              locked = domain.tables.locked;
+            };
+          }
 
       by_lock : (locked : Bool) → domain.tables.locked ≡ locked
           → lists (if locked then domain else record domain { tables = record domain.tables { registry = registry } }) ≡ lists domain
@@ -252,11 +256,13 @@ module _ (first : DomainState) where
     where
       with : Bool → DbState → DomainState
       with locked protocols =
-          record first { tables = record first.tables {
-            registry = if locked then domain.tables.registry else first.tables.registry;
-            protocols = if locked then protocols else first.tables.protocols;
-            locked = domain.tables.locked;
-          } }
+          record first {
+            tables = record first.tables {
+              registry = if locked then domain.tables.registry else first.tables.registry;
+              protocols = if locked then protocols else first.tables.protocols;
+              locked = domain.tables.locked;
+            };
+          }
 
       by_lock : (locked : Bool) → domain.tables.locked ≡ locked
           → lists (if locked then domain else record domain { tables = record domain.tables { protocols = protocols } }) ≡ lists domain

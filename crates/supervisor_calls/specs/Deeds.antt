@@ -100,18 +100,26 @@ pool_in domain = get_or domain.tables.live.pools domain.image []
 
 abbrev pub with_pool : List Block → DomainState → DomainState
 with_pool pool domain =
-    record domain { tables = record domain.tables { live = record domain.tables.live {
-      pools = set domain.tables.live.pools domain.image pool;
-    } } }
+    record domain {
+      tables = record domain.tables {
+        live = record domain.tables.live {
+          pools = set domain.tables.live.pools domain.image pool;
+        };
+      };
+    }
 
 abbrev pub reserve_in : DomainState → List Bool
 reserve_in domain = get_or domain.tables.live.reserves domain.image []
 
 abbrev pub with_reserve : List Bool → DomainState → DomainState
 with_reserve reserve domain =
-    record domain { tables = record domain.tables { live = record domain.tables.live {
-      reserves = set domain.tables.live.reserves domain.image reserve;
-    } } }
+    record domain {
+      tables = record domain.tables {
+        live = record domain.tables.live {
+          reserves = set domain.tables.live.reserves domain.image reserve;
+        };
+      };
+    }
 
 -- the domain with other handlers, or with other interfaces; after lock both stay
 abbrev pub with_handlers : RegistryState → DomainState → DomainState

@@ -39,9 +39,7 @@ impl<F: Frames> Tables<F> {
     /// Frees the block of an image's pool that begins at an address, where the pool begins at `base`, and answers whether there is one.
     pub(crate) fn free_block(&mut self, image: u32, base: u64, address: u64) -> bool
         requires there { image < length self.old.site.images }
-        ensures {
-            Answers (block_freed image (address - base) (is_live_at base (pool_at image self.old) address) self.old) result self.new
-        }
+        ensures { Answers (block_freed image (address - base) (is_live_at base (pool_at image self.old) address) self.old) result self.new }
     {
         if address < base {
             return false;
@@ -67,10 +65,8 @@ impl<F: Frames> Tables<F> {
     pub(crate) fn give_run(&mut self, image: u32, base: u64, address: u64, pages: u64) -> bool
         requires there { image < length self.old.site.images }
         requires begins { base ≡ (reserve_of (region_at image self.old)).base }
-        ensures {
-            Answers (run_given image base address pages (are_taken_at base (reserve_at image self.old) address pages) self.old)
-                result self.new
-        }
+        ensures { Answers (run_given image base address pages (are_taken_at base (reserve_at image self.old) address pages) self.old)
+            result self.new }
     {
         self.keeps();
         if !has_taken(&self.reserves[image as usize], base, address, pages) {

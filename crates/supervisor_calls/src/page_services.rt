@@ -18,9 +18,7 @@ impl<F: Frames> Domain<F> {
         self.ask_out(out)?;
         let reserve = self.region().reserve();
         match self.tables.take_run(self.image, pages) {
-            Some(start) => {
-                Ok(self.give(out, reserve.base + PAGE_BYTES as u64 * start as u64))
-            }
+            Some(start) => { Ok(self.give(out, reserve.base + PAGE_BYTES as u64 * start as u64)) }
             None => Ok(OUT_OF_RESOURCES),
         }
     }
@@ -34,7 +32,10 @@ impl<F: Frames> Domain<F> {
         }
         self.tables.keeps();
         let reserve = self.region().reserve();
-        if self.tables.give_run(self.image, reserve.base, address, pages) {
+        if self
+            .tables
+            .give_run(self.image, reserve.base, address, pages)
+        {
             Ok(SUCCESS)
         } else {
             Ok(NOT_FOUND)
