@@ -15,13 +15,14 @@ use Rattle.mm_base.specs.declared.entry.Shape.TheVariants.{Dispatched}
 use Rattle.mmi_registry.specs.ChainRule.{stops}
 use Rattle.mmi_registry.specs.Handlers.{chain_of}
 use Rattle.mm_core.specs.CommunicateHeader.{header_length, is_lawful, header_of}
-use Rattle.mm_core.specs.CoreState.{Site, Live}
+use Rattle.mm_core.specs.CoreState.{Site}
 use Rattle.mm_core.specs.EntryStep.{has_none, shape_of, message_of, chain_runs, entry_step}
 use Rattle.mm_core.specs.HandlerChain.{runs_of, through_stop, invocations_of, live_after}
 use Rattle.mm_core.specs.Invoked.{Message, Invoked, no_message, invoked, status_of}
 use Rattle.mm_core.specs.Laws.{IsAddressed, DispatchedExactly, RootAlwaysRuns, ChainRunsInOrder, numbers_of, invoked_numbers}
 use Rattle.mm_core.specs.Laws.{Stops, GoesOn, RunInOrder}
 use Rattle.mm_core.specs.MachineLemmas.{is_addressed, shape_by, length-runs_of}
+use Rattle.supervisor_calls.specs.Tables.{Live}
 
 -- ---- who is dispatched
 

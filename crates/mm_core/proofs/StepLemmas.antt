@@ -18,12 +18,13 @@ use Rattle.mm_core.proofs.ChainRunLemmas.{answer_of-no_message}
 use Rattle.mm_core.specs.BufferInside.{BufferState}
 use Rattle.mm_core.specs.ChainInside.{managed}
 use Rattle.mm_core.specs.CommunicateHeader.{header_of, header_bytes, message_bytes}
-use Rattle.mm_core.specs.CoreState.{CoreState, Site, Live}
+use Rattle.mm_core.specs.CoreState.{CoreState, Site}
 use Rattle.mm_core.specs.EntryStep.{message_of, chain_runs, root_runs, shape_of, outcome_of, entry_step, core_step}
 use Rattle.mm_core.specs.HandlerChain.{runs_of, through_stop, invocations_of, statuses_of, message_after, live_after}
 use Rattle.mm_core.specs.Invoked.{Message, Invoked, no_message, answer_of, invoked, status_of}
 use Rattle.mm_core.specs.MachineLemmas.{length-both_chains, length-runs_of, chain_and_root}
 use Rattle.mm_core.specs.StepInside.{chain_in, status_in, reply_in}
+use Rattle.supervisor_calls.specs.Tables.{Live}
 
 -- a GUID's chain has at most as many handlers as there are
 pub length-chain : (guid : Guid) (handlers : List Handler) → length (chain_of (Some guid) handlers) ≤ length handlers

@@ -6,8 +6,9 @@ use Rattle.mm_base.specs.declared.handler.Handler.{Handler}
 use Rattle.mm_base.specs.declared.invocation.Invocation.{Invocation}
 use Rattle.mmi_registry.specs.ChainRule.{is_final, stops}
 use Rattle.mmi_registry.specs.ChainLaws.{best_of}
-use Rattle.mm_core.specs.CoreState.{Site, Live}
+use Rattle.mm_core.specs.CoreState.{Site}
 use Rattle.mm_core.specs.Invoked.{Message, Invoked, no_message, invoked, status_of}
+use Rattle.supervisor_calls.specs.Tables.{Live}
 
 -- What handlers leave, one after another, if none stops the chain. A root handler is given no message, and none of
 -- another.

@@ -10,8 +10,9 @@ use Rattle.mm_base.specs.declared.handler.HandlerBody.TheVariants.{Version, Stub
 use Rattle.mm_base.specs.declared.invocation.Invocation.{Invocation}
 use Rattle.mm_base.specs.declared.invocation.Ended.{Ended}
 use Rattle.mm_base.specs.declared.invocation.Ended.TheVariants.{Returned, Denied, Fuel, Fault, NoMemory}
-use Rattle.mm_core.specs.CoreState.{Site, Live}
+use Rattle.mm_core.specs.CoreState.{Site}
 use Rattle.mm_core.specs.Version.{version_number}
+use Rattle.supervisor_calls.specs.Tables.{Live}
 
 -- A message while handlers work on it. Its buffer keeps its length, whatever the size becomes.
 pub record Message : Type 0 where

@@ -9,9 +9,10 @@ use Rattle.mm_base.specs.declared.invocation.Invocation.{Invocation}
 use Rattle.mmi_registry.specs.ChainRule.{stops}
 use Rattle.mmi_registry.specs.Handlers.{chain_of}
 use Rattle.mm_core.specs.CommunicateHeader.{header_length, header_of}
-use Rattle.mm_core.specs.CoreState.{Site, Live}
+use Rattle.mm_core.specs.CoreState.{Site}
 use Rattle.mm_core.specs.EntryStep.{entry_step}
 use Rattle.mm_core.specs.Invoked.{status_of}
+use Rattle.supervisor_calls.specs.Tables.{Live}
 
 -- A request is addressed to a GUID: it has at least a header and as many bytes as its length word says, the message
 -- fits after the header, the header names the GUID, and a handler is registered for it.

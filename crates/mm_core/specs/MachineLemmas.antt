@@ -18,12 +18,13 @@ use Rattle.mmi_registry.proofs.FilterLemmas.{length-kept, cond-le-one}
 use Rattle.mmi_registry.specs.ChainRule.{stops}
 use Rattle.mmi_registry.specs.Handlers.{chain_of}
 use Rattle.mm_core.specs.CommunicateHeader.{header_length, is_lawful, header_of, header_bytes}
-use Rattle.mm_core.specs.CoreState.{Site, Live, CoreState}
+use Rattle.mm_core.specs.CoreState.{Site, CoreState}
 use Rattle.mm_core.specs.EntryStep.{has_none, shape_of, message_of, chain_runs, root_runs, reply_as, outcome_of}
 use Rattle.mm_core.specs.EntryStep.{entry_step, core_step}
 use Rattle.mm_core.specs.HandlerChain.{runs_of, through_stop, invocations_of, message_after, live_after}
 use Rattle.mm_core.specs.Invoked.{Message, Invoked, no_message, invoked, status_of}
 use Rattle.mm_core.specs.Laws.{IsAddressed}
+use Rattle.supervisor_calls.specs.Tables.{Live}
 
 -- ---- runs
 

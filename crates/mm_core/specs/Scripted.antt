@@ -1,12 +1,14 @@
--- The core of a script: the version handler as number 0, the script's stubs from 1 on, and its opening cells.
+-- The core of a script: the version handler as number 0, the script's stubs from 1 on, and its opening cells. It has no
+-- images.
 use Rattle.std.specs.Prelude.{◌≡◌, ℕ, ◌+◌, Bool, true, false, List, [], ◌∷◌, Some}
 use Rattle.std.specs.List.{All}
 use Rattle.mm_base.specs.declared.cells.CellWrite.{CellWrite}
 use Rattle.mm_base.specs.declared.handler.Handler.{Handler}
 use Rattle.mm_base.specs.declared.handler.HandlerBody.{HandlerBody}
 use Rattle.mm_base.specs.declared.handler.HandlerBody.TheVariants.{Version, Stub, Code}
-use Rattle.mm_core.specs.CoreState.{CoreState}
+use Rattle.mm_core.specs.CoreState.{CoreState, without_images}
 use Rattle.mm_core.specs.Version.{version_guid}
+use Rattle.platform_model.specs.Opening.{opening_state}
 
 -- whether a body is a stub's
 abbrev pub is_stub : HandlerBody → Bool
@@ -30,7 +32,4 @@ version_handler = record { number = 0; guid = Some version_guid; body = Version 
 
 -- the core of a script with these opening cells and stubs
 abbrev pub core_of_script : List CellWrite → List Handler → CoreState
-core_of_script cells stubs = record {
-  site = record { handlers = version_handler ∷ numbered 1 stubs };
-  live = record { cells = cells };
-}
+core_of_script cells stubs = without_images (version_handler ∷ numbered 1 stubs) (opening_state cells)

@@ -2,45 +2,41 @@
 ghost use Rattle.std.specs.Prelude.{◌≡◌, ◌≤◌, [], Some, not, true, length, slice_get, IfOk};
 ghost use Rattle.mm_base.specs.Entry.{blank_entry};
 ghost use Rattle.mmi_registry.specs.Handlers.{chain_of};
+ghost use Rattle.mm_core.specs.CoreState.{without_images};
 ghost use Rattle.mm_core.specs.EntryStep.{has_none};
 
 use crate::entry_step::outcome_of;
-use mm_base::{CellWrite, Guid, Handler, List, Machine, NoMemory, Prepared};
+use mm_base::{Guid, Handler, Machine, NoMemory, Prepared};
 use mmi_registry::Registry;
+use platform_model::Platform;
 use std::alloc::Global;
 use std::marker::Model;
 
-/// A core without images: its handlers, which are frozen, and what its cells hold.
+/// A core without images: its handlers, which are frozen, and the cells of the platform.
 #[derive(Debug, Drop)]
 pub struct Core {
     registry: Registry,
-    cells: List<CellWrite>,
+    platform: Platform,
 }
 
 impl Model for Core {
     ghost use Rattle.std.specs.Prelude.{◌≡◌, true};
-    ghost use Rattle.mm_core.specs.CoreState.{CoreState};
+    ghost use Rattle.mm_core.specs.CoreState.{CoreState, without_images};
 
     ghost Value = { CoreState };
 
-    ghost view = { λ c. record {
-      site = record { handlers = c.registry.handlers };
-      live = record { cells = c.cells };
-    } };
+    ghost view = { λ c. without_images c.registry.handlers c.platform };
 
     ghost invariant = { λ c. c.registry.frozen ≡ true };
 }
 
 impl Core {
     /// The core that has these handlers and cells. Registration is over.
-    pub(crate) fn new(registry: Registry, cells: List<CellWrite>) -> Core
+    pub(crate) fn new(registry: Registry, platform: Platform) -> Core
         requires { registry.frozen ≡ true }
-        ensures { result ≡ record {
-          site = record { handlers = registry.handlers };
-          live = record { cells = cells };
-        } }
+        ensures { result ≡ without_images registry.handlers platform }
     {
-        Core { registry, cells }
+        Core { registry, platform }
     }
 
     /// How many images are loaded: none yet.

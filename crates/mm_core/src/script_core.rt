@@ -9,10 +9,11 @@ use crate::machine_core::Core;
 use crate::version::VERSION_GUID;
 use mm_base::{Guid, Handler, HandlerBody, List, NoMemory, Opening};
 use mmi_registry::Registry;
+use platform_model::Platform;
 use std::alloc::Global;
 
-/// The core of a script with these opening cells and stubs, whose numbers aren't read. It costs one step a stub and a
-/// cell.
+/// The core of a script with these opening cells and stubs, whose numbers aren't read. It takes memory for all cells of
+/// the platform, 256 KiB, and costs one step a stub, an opening cell and a cell of the platform.
 pub fn scripted(
     alloc: Global,
     opening: &Opening,
@@ -29,8 +30,8 @@ pub fn scripted(
         add_built_in(&mut registry, handler.guid, handler.body);
     }
     registry.freeze();
-    let cells = List::from_slice(alloc, opening.cells.as_slice())?;
-    Ok(Core::new(registry, cells))
+    let platform = Platform::new(alloc, opening)?;
+    Ok(Core::new(registry, platform))
 }
 
 /// Registers a handler of the core's own, where there is place for it.
