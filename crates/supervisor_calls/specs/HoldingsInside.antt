@@ -1,3 +1,4 @@
+-- No public clause cites this file.
 -- Words for private contracts on what images hold.
 use Rattle.std.specs.Prelude.{ℕ, ◌-◌, ◌*◌, Bool, true, false, List, [], get_or, set, slice_get, Option, Some, None}
 use Rattle.std.specs.Option.{option_map_or}

@@ -1,3 +1,4 @@
+-- No public clause cites this file.
 -- Words for private contracts of handlers and interfaces: what a change answers, and what is listed then.
 use Rattle.std.specs.Prelude.{◌≡◌, ◌⊎◌, ℕ, ◌+◌, ◌||◌, ◌==◌, if◌then◌else◌}
 use Rattle.std.specs.Prelude.{List, Option, Some, None, Result, Ok, Err}
