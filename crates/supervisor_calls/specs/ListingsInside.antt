@@ -2,12 +2,10 @@
 -- Words for private contracts of handlers and interfaces: what a change answers, and what is listed then.
 use Rattle.std.specs.Prelude.{◌≡◌, ◌⊎◌, ℕ, ◌+◌, ◌||◌, ◌==◌, if◌then◌else◌}
 use Rattle.std.specs.Prelude.{List, Option, Some, None, Result, Ok, Err}
-use Rattle.mm_base.specs.Statuses.{out_of_resources}
 use Rattle.mm_base.specs.declared.bus.Served.{Served}
 use Rattle.mm_base.specs.declared.guid.Guid.{Guid}
 use Rattle.mm_base.specs.declared.handler.Handler.{Handler}
 use Rattle.mm_base.specs.declared.handler.HandlerBody.{HandlerBody}
-use Rattle.mm_base.specs.declared.handler.HandlerBody.TheVariants.{Code}
 use Rattle.mmi_registry.specs.Handlers.{handler_at, is_of, without_number}
 use Rattle.mmi_registry.specs.Registry as registry
 use Rattle.mmi_registry.specs.Registry.{RegistryState, with_handler}
@@ -16,9 +14,8 @@ use Rattle.protocol_db.specs.Rows.{has_handle, is_owned_by, row_at, row_with, wi
 use Rattle.protocol_db.specs.declared.database.FindEnd.{FindEnd}
 use Rattle.protocol_db.specs.declared.database.FindEnd.TheVariants.{NoHandle, NoProtocol}
 use Rattle.protocol_db.specs.declared.protocol_row.Row.{Row}
-use Rattle.supervisor_calls.specs.Deeds.{Deed, Returns, Asks, SeesHandlers, SetsHandlers, guid_seen}
+use Rattle.supervisor_calls.specs.Deeds.{guid_seen}
 use Rattle.supervisor_calls.specs.Domains.{DomainState}
-use Rattle.supervisor_calls.specs.Services.{gives}
 use Rattle.supervisor_calls.specs.Tables.{TablesState}
 use Rattle.supervisor_calls.specs.declared.listings.ListingEnd.{ListingEnd}
 use Rattle.supervisor_calls.specs.declared.listings.ListingEnd.TheVariants.{Invalid, Full, NoMemory}
@@ -92,10 +89,3 @@ named (Err served, domain) = (Err served, domain)
 
 abbrev pub root_or_seen : ℕ → DomainState → Result (Option Guid) Served × DomainState
 root_or_seen pointer domain = if pointer == 0 then (Ok None, domain) else named (guid_seen pointer domain)
-
--- what comes after the GUID where code of an image is registered
-abbrev pub code_registration : ℕ → ℕ → ℕ → Option Guid → Deed
-code_registration image address out guid =
-    Asks out (SeesHandlers (λ handlers.
-    if registry.is_at_limit (Code image address) handlers then Returns out_of_resources
-    else SetsHandlers (with_handler guid (Code image address) handlers) (gives out (handlers.next + 1))))

@@ -129,12 +129,16 @@ abbrev pub named_or_root : ℕ → (Option Guid → Deed) → Deed
 named_or_root pointer next = if pointer == 0 then next None else Names pointer (λ guid. next (Some guid))
 
 -- MmiHandlerRegister: code of this image becomes a handler; its handle is its number + 1
+abbrev pub code_registration : ℕ → ℕ → ℕ → Option Guid → Deed
+code_registration image address out guid =
+    Asks out (SeesHandlers (λ registry.
+    if is_at_limit (Code image address) registry then Returns out_of_resources
+    else SetsHandlers (with_handler guid (Code image address) registry) (gives out (registry.next + 1))))
+
 abbrev pub registration : ℕ → ℕ → ℕ → ℕ → Deed
 registration image address pointer out =
     if (address == 0) || not (address % 2 == 0) then Returns invalid_parameter
-    else named_or_root pointer (λ guid. Asks out (SeesHandlers (λ registry.
-    if is_at_limit (Code image address) registry then Returns out_of_resources
-    else SetsHandlers (with_handler guid (Code image address) registry) (gives out (registry.next + 1)))))
+    else named_or_root pointer (code_registration image address out)
 
 -- MmiHandlerUnRegister: only the handler's own image may
 abbrev pub handler_removed : ℕ → ℕ → RegistryState → Option Handler → Deed

@@ -1,8 +1,8 @@
 //! Services that register handlers and remove them.
 ghost use Rattle.std.specs.Prelude.{◌≡◌, false};
 ghost use Rattle.mm_base.specs.Bus.{Answers};
-ghost use Rattle.supervisor_calls.specs.ListingsInside.{code_registration, root_or_seen};
-ghost use Rattle.supervisor_calls.specs.Services.{registration, unregistration};
+ghost use Rattle.supervisor_calls.specs.ListingsInside.{root_or_seen};
+ghost use Rattle.supervisor_calls.specs.Services.{code_registration, registration, unregistration};
 ghost use Rattle.supervisor_calls.specs.ServicesInside.{Does};
 
 use crate::domain::Domain;
