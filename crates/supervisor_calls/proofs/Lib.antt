@@ -1,4 +1,5 @@
 pub mod ByteLemmas
+pub mod GivenLemmas
 pub mod HoldingLemmas
 pub mod HoldingSteps
 pub mod LawLemmas
