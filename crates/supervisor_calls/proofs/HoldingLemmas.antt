@@ -1,16 +1,15 @@
 -- Which block or run of pages comes next: what a pool and a reserve find is what the definitions name.
-use Rattle.std.proofs.Common.{◌≡◌, ◌⊎◌, ◌↔◌, inl, inr, ℕ, zero, suc, ◌+◌, ◌*◌, ◌-◌, ◌/◌, ◌%◌, ◌≤◌, ◌<◌, Bool, true, false, not, ◌&&◌, ◌||◌, Decides, List, [], ◌∷◌, length, take, drop, get_or, map, find, Option, Some, None, All, Contains, IsTrue, IfSome, leb, eqb, refl, sym, ap, ◌∙◌, subst, ◌==◌, arith}
+use Rattle.std.proofs.Common.{◌≡◌, ◌⊎◌, inl, inr, ℕ, zero, suc, ◌+◌, ◌-◌, ◌/◌, ◌%◌, ◌≤◌, ◌<◌, Bool, true, false, not, ◌&&◌, ◌||◌, Decides, List, [], ◌∷◌, length, take, drop, get_or, map, Some, None, All, Contains, leb, eqb, refl, sym, ap, ◌∙◌, ◌==◌, arith}
 use Rattle.std.proofs.Math.Nat.{mul-mod_left}
 use Rattle.std.specs.List.{list_any, list_all}
 use Rattle.std.specs.Option.{option_map}
-use Rattle.std.proofs.lemmas.Bool.{cases_lt, cases_Bool, cases_eq}
-use Rattle.std.proofs.lemmas.Bool.Decides.{nat_tests, same_from_decides, Decides-and, Decides-or, Decides-eqb, Decides-like, Decides-by_and}
+use Rattle.std.proofs.lemmas.Bool.{cases_lt}
+use Rattle.std.proofs.lemmas.Bool.Decides.{nat_tests, Decides-and, Decides-or, Decides-eqb, Decides-like, Decides-by_and}
 use Rattle.std.proofs.lemmas.List.{length-take, length-drop, get_or-take, get_or-drop, get_or_default}
-use Rattle.std.proofs.lemmas.List.Elements.{All-head, All-tail}
 use Rattle.page_runs.specs.Runs.{is_taken, IsRun, IsLowestRun, HasNoRun, AreTaken}
 use Rattle.pool_tree.specs.Pool.{Block, IsApart, IsBlockSize, IsLive, IsLowestPlace, IsMultiple, IsPlace, arena_bytes}
-use Rattle.pool_tree.proofs.SizeLemmas.{size_exists, size_unique}
-use Rattle.supervisor_calls.specs.Holdings.{lowest_below, size_for, is_apart, may_lie, block_of_size, next_block, is_live_at, are_taken, are_free, next_run, page_at, are_taken_at}
+use Rattle.pool_tree.proofs.SizeLemmas.{size_exists}
+use Rattle.supervisor_calls.specs.Holdings.{is_apart, may_lie, block_of_size, next_block, are_taken, are_free, next_run}
 use Rattle.supervisor_calls.proofs.LowestLemmas.{lowest_is, lowest_none, size_is, size_none}
 
 pub decides_le : (a b : ℕ) → Decides (leb a b) (a ≤ b)

@@ -1,6 +1,7 @@
 pub mod ByteLemmas
 pub mod CellLemmas
 pub mod DeedLemmas
+pub mod GivenLemmas
 pub mod HoldingLemmas
 pub mod HoldingSteps
 pub mod LawLemmas

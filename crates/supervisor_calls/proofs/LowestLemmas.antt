@@ -1,5 +1,5 @@
 -- The lowest number below a bound that passes a test, and the least size that holds some bytes.
-use Rattle.std.proofs.Common.{◌≡◌, ◌⊎◌, inl, inr, ℕ, zero, suc, ◌+◌, ◌*◌, ◌^◌, ◌≤◌, ◌<◌, Bool, true, false, Decides, List, [], ◌∷◌, find, Option, Some, None, leb, refl, sym, ap, ◌∙◌, subst, pow_mono, arith, lit≤, lit<}
+use Rattle.std.proofs.Common.{◌≡◌, inl, inr, ℕ, zero, suc, ◌+◌, ◌^◌, ◌≤◌, ◌<◌, Bool, true, false, Decides, List, [], ◌∷◌, find, Some, None, leb, refl, sym, ap, ◌∙◌, subst, pow_mono, arith}
 use Rattle.std.specs.List.{range_with_len}
 use Rattle.std.proofs.lemmas.Bool.{cases_lt, cases_eq}
 use Rattle.std.proofs.lemmas.Bool.Decides.{nat_tests}
@@ -8,7 +8,7 @@ use Rattle.pool_tree.specs.Pool.{IsBlockSize}
 use Rattle.supervisor_calls.specs.Holdings.{lowest_below, size_for}
 
 -- whether a test fails where what it decides doesn't hold
-fails : {P : Type 0} (b : Bool) → Decides b P → (P → ⊥) → b ≡ false
+pub fails : {P : Type 0} (b : Bool) → Decides b P → (P → ⊥) → b ≡ false
 fails true decides none = absurd (none (decides.0 refl))
 fails false decides none = refl
 

@@ -1,6 +1,5 @@
 -- That pages are given back as the service says: its deed asks whether they may be written, and its own pages always may.
-use Rattle.std.proofs.Common.{◌≡◌, ◌≢◌, ℕ, ◌*◌, ◌+◌, ◌-◌, ◌%◌, ◌≤◌, ◌<◌, Bool, true, false, not, ◌&&◌, ◌||◌, ◌==◌, if◌then◌else◌, List, length, Option, Some, Result, Ok, All, eqb, refl, sym, ap, ◌∙◌, subst, arith}
-use Rattle.std.specs.List.{slice_get}
+use Rattle.std.proofs.Common.{◌≡◌, ℕ, ◌*◌, ◌-◌, ◌%◌, ◌≤◌, ◌<◌, Bool, true, false, not, ◌||◌, ◌==◌, if◌then◌else◌, List, length, Option, Result, Ok, All, eqb, refl, sym, ap, ◌∙◌, subst, arith}
 use Rattle.std.specs.Option.{option_map_or}
 use Rattle.std.proofs.lemmas.Bool.Decides.{nat_tests}
 use Rattle.image_table.specs.HomeRanges.{IsPlaced}
@@ -23,15 +22,14 @@ use Rattle.mm_base.specs.declared.range.Range.{Range}
 use Rattle.mm_base.specs.declared.region.Region.{Region}
 use Rattle.page_runs.specs.Runs.{with_run}
 use Rattle.secure_policy.specs.Verdicts.{units_from}
-use Rattle.supervisor_calls.specs.Accesses.{denial_of, with_bytes, with_quota, has_used_quota}
+use Rattle.supervisor_calls.specs.Accesses.{denial_of, with_bytes, with_quota}
 use Rattle.supervisor_calls.specs.Deeds.{Deed, Returns, Clears, SetsReserve, after_clearing, bytes_cleared, done, going_on, let_through, with_reserve}
 use Rattle.supervisor_calls.specs.Domains.{DomainState, acted, trapped_of, verdict_in, write_verdict}
 use Rattle.supervisor_calls.specs.Holdings.{are_taken_at, page_at}
-use Rattle.supervisor_calls.specs.HoldingsInside.{cleared, region_at, reserve_at, reserve_put, run_given}
-use Rattle.supervisor_calls.specs.Laws.{lies_in_own_pages}
+use Rattle.supervisor_calls.specs.HoldingsInside.{cleared, reserve_at, run_given}
 use Rattle.supervisor_calls.specs.Services.{page_release, region_in}
 use Rattle.supervisor_calls.specs.Tables.{Live, TablesState, IsTables}
-use Rattle.supervisor_calls.proofs.HoldingSteps.{LiesThere, lies_in_reserve, of_there}
+use Rattle.supervisor_calls.proofs.GivenLemmas.{LiesThere, lies_in_reserve, of_there}
 use Rattle.supervisor_calls.proofs.LawLemmas.{own_pages_pass}
 use Rattle.supervisor_calls.proofs.WhereLemmas.{memory_told}
 

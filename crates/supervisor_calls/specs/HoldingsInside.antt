@@ -1,10 +1,9 @@
 -- No public clause cites this file.
--- Words for private contracts on what images hold.
+-- What is done to the blocks and the pages that images hold, by functions of the tables.
 use Rattle.std.specs.Prelude.{ℕ, ◌-◌, ◌*◌, Bool, true, false, List, [], get_or, set, slice_get, Option, Some, None}
 use Rattle.std.specs.Option.{option_map_or}
 use Rattle.mm_base.specs.Frames.{zeros}
 use Rattle.mm_base.specs.Numbers.{overwritten}
-use Rattle.mm_base.specs.Regions.{reserve_of}
 use Rattle.mm_base.specs.declared.region.Region.{Region}
 use Rattle.page_runs.specs.Runs.{with_run}
 use Rattle.pool_tree.specs.Pool.{Block, with_block, without_block}

@@ -36,10 +36,11 @@ impl<F: Frames> Tables<F> {
         self.pools[image as usize].alloc(n)
     }
 
-    /// Frees the block of an image's pool that begins at an address, where the pool begins at `base`, and answers whether there is one.
+    /// Frees the block of an image's pool that begins at an address, and answers whether there is one. The pool begins at a base.
     pub(crate) fn free_block(&mut self, image: u32, base: u64, address: u64) -> bool
         requires there { image < length self.old.site.images }
-        ensures { Answers (block_freed image (address - base) (is_live_at base (pool_at image self.old) address) self.old) result self.new }
+        ensures { Answers (block_freed image (address - base) (is_live_at base (pool_at image self.old) address) self.old)
+            result self.new }
     {
         if address < base {
             return false;
@@ -60,12 +61,13 @@ impl<F: Frames> Tables<F> {
         self.reserves[image as usize].take(pages as u32)
     }
 
-    /// Clears `pages` pages of an image's reserve from an address on, and gives them back, where all of them are taken; the reserve
-    /// begins at `base`. It answers whether they are.
+    /// Clears `pages` pages of an image's reserve from an address on, and gives them back, where all of them are taken. It answers
+    /// whether they are. The reserve begins at a base.
     pub(crate) fn give_run(&mut self, image: u32, base: u64, address: u64, pages: u64) -> bool
         requires there { image < length self.old.site.images }
-        requires begins { base ≡ (reserve_of (region_at image self.old)).base }
-        ensures { Answers (run_given image base address pages (are_taken_at base (reserve_at image self.old) address pages) self.old)
+        requires region { base ≡ (reserve_of (region_at image self.old)).base }
+        ensures { Answers
+            (run_given image base address pages (are_taken_at base (reserve_at image self.old) address pages) self.old)
             result self.new }
     {
         self.keeps();

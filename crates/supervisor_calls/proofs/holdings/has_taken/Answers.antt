@@ -1,4 +1,4 @@
-use Rattle.supervisor_calls.proofs.HoldingSteps.{given_by}
+use Rattle.supervisor_calls.proofs.GivenLemmas.{given_by}
 use Rattle.supervisor_calls.proofs.holdings.has_taken.Goals as goal
 
 pub returns : goal.returns

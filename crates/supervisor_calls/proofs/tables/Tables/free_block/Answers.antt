@@ -1,12 +1,12 @@
-use Rattle.std.proofs.Common.{◌≡◌, ℕ, ◌<◌, length, refl, ap, ◌∙◌, arith}
-use Rattle.supervisor_calls.specs.Tables.{TablesState}
-use Rattle.supervisor_calls.proofs.HoldingSteps.{block_is_freed, none_is_freed}
+use Rattle.std.proofs.Common.{◌<◌, length, refl, ◌∙◌, arith}
+use Rattle.supervisor_calls.proofs.HoldingSteps.{has_pool, block_is_freed, none_is_freed}
 use Rattle.supervisor_calls.proofs.tables.Tables.free_block.Goals as goal
 
 pub index_mut-requires : goal.index_mut-requires
 index_mut-requires g c =
-    let images : length c.self.inside.images ≡ length c.args.self.now.site.images = ap (λ (t : TablesState). length t.site.images) c.self.view_is in
-    omega (arith, images, c.requires.there, c.self.invariant.keeps.pools, c.self.inside.pools.ok.0)
+    let there : c.args.image < length c.self.inside.pools.items =
+    has_pool _ c.args.self.now c.args.image c.self.view_is c.self.invariant.keeps c.requires.there in
+    omega (arith, there, c.self.inside.pools.ok.0)
 
 pub returns-then-address-base : goal.returns-then-address-base
 returns-then-address-base g c =
@@ -14,8 +14,7 @@ returns-then-address-base g c =
 
 pub returns : goal.returns
 returns g c =
-    let images : length c.self.inside.images ≡ length c.args.self.now.site.images = ap (λ (t : TablesState). length t.site.images) c.self.view_is in
-    let there : c.args.image < length c.self.inside.pools.items = omega (arith, images, c.requires.there, c.self.invariant.keeps.pools) in
+    let there = has_pool _ c.args.self.now c.args.image c.self.view_is c.self.invariant.keeps c.requires.there in
     let f = c.free.ensures in
     let freed =
     block_is_freed _ c.args.self.now c.args.image c.args.base c.args.address c.index_mut.result.now c.free.new.self c.free.result c.self.view_is there

@@ -1,12 +1,12 @@
-use Rattle.std.proofs.Common.{◌≡◌, ℕ, ◌<◌, ◌∙◌, List, Bool, length, refl, ap, arith}
-use Rattle.supervisor_calls.specs.Tables.{TablesState}
-use Rattle.supervisor_calls.proofs.HoldingSteps.{run_is_taken, none_is_taken, takes_as_long, reserve_keeps}
+use Rattle.std.proofs.Common.{◌≡◌, ◌<◌, ◌∙◌, List, Bool, length, refl, ap, arith}
+use Rattle.supervisor_calls.proofs.HoldingSteps.{has_reserve, run_is_taken, none_is_taken, takes_as_long, reserve_keeps}
 use Rattle.supervisor_calls.proofs.tables.Tables.take_run.Goals as goal
 
 pub index_mut-requires : goal.index_mut-requires
 index_mut-requires g c =
-    let images : length c.self.inside.images ≡ length c.args.self.now.site.images = ap (λ (t : TablesState). length t.site.images) c.self.view_is in
-    omega (arith, images, c.requires.there, c.self.invariant.keeps.reserves, c.self.inside.reserves.ok.0)
+    let there : c.args.image < length c.self.inside.reserves.items =
+    has_reserve _ c.args.self.now c.args.image c.self.view_is c.self.invariant.keeps c.requires.there in
+    omega (arith, there, c.self.inside.reserves.ok.0)
 
 pub returns-then-pages : goal.returns-then-pages
 returns-then-pages g c =
@@ -16,8 +16,7 @@ returns-then-pages g c =
 
 pub invariant_of-self : goal.invariant_of-self
 invariant_of-self g c =
-    let images : length c.self.inside.images ≡ length c.args.self.now.site.images = ap (λ (t : TablesState). length t.site.images) c.self.view_is in
-    let there : c.args.image < length c.self.inside.reserves.items = omega (arith, images, c.requires.there, c.self.invariant.keeps.reserves) in
+    let there = has_reserve _ c.args.self.now c.args.image c.self.view_is c.self.invariant.keeps c.requires.there in
     let e = c.take.ensures in
     let as_long : length c.take.new.self ≡ length c.index_mut.result.now =
     takes_as_long c.args.pages c.index_mut.result.now c.take.new.self c.take.result
@@ -32,8 +31,7 @@ invariant_of-self g c =
 
 pub returns : goal.returns
 returns g c =
-    let images : length c.self.inside.images ≡ length c.args.self.now.site.images = ap (λ (t : TablesState). length t.site.images) c.self.view_is in
-    let there : c.args.image < length c.self.inside.reserves.items = omega (arith, images, c.requires.there, c.self.invariant.keeps.reserves) in
+    let there = has_reserve _ c.args.self.now c.args.image c.self.view_is c.self.invariant.keeps c.requires.there in
     let e = c.take.ensures in
     run_is_taken _ c.args.self.now c.args.image c.args.pages c.index_mut.result.now c.take.new.self c.take.result c.self.view_is there
     c.index_mut.ensures.value c.requires.some (record { lowest = e.lowest; taken = e.taken; none = e.none; unchanged = e.unchanged })
