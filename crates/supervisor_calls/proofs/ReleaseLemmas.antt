@@ -65,7 +65,7 @@ module _ (domain : DomainState) (placed : All IsPlaced domain.tables.site.images
   after_is : after_clearing at n domain ≡ record domain { tables = cleared at n domain.tables }
   after_is =
       let is : with_bytes at (zeros n) domain.tables.live
-          ≡ record domain.tables.live { memory = overwritten domain.tables.live.memory (at - 0x80000000) (zeros n) } = rw not_device refl in
+      ≡ record domain.tables.live { memory = overwritten domain.tables.live.memory (at - 0x80000000) (zeros n) } = rw not_device refl in
       ap (λ (live : Live). acted domain (record { live = live; records = domain.records })) is
 
 -- what the deed does where the pages are taken, and where they aren't

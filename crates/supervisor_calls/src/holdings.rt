@@ -39,10 +39,8 @@ impl<F: Frames> Tables<F> {
     /// Frees the block of an image's pool that begins at an address, and answers whether there is one. The pool begins at a base.
     pub(crate) fn free_block(&mut self, image: u32, base: u64, address: u64) -> bool
         requires there { image < length self.old.site.images }
-        ensures {
-            Answers (block_freed image (address - base) (is_live_at base (pool_at image self.old) address) self.old)
-                result self.new
-        }
+        ensures { Answers (block_freed image (address - base) (is_live_at base (pool_at image self.old) address) self.old)
+            result self.new }
     {
         if address < base {
             return false;
@@ -54,9 +52,7 @@ impl<F: Frames> Tables<F> {
     pub(crate) fn take_run(&mut self, image: u32, pages: u64) -> Option<u32>
         requires there { image < length self.old.site.images }
         requires some { 1 ≤ pages }
-        ensures {
-            Answers (run_taken image pages (next_run (reserve_at image self.old) pages) self.old) result self.new
-        }
+        ensures { Answers (run_taken image pages (next_run (reserve_at image self.old) pages) self.old) result self.new }
     {
         self.keeps();
         if pages > RESERVE_PAGES as u64 {
@@ -70,11 +66,9 @@ impl<F: Frames> Tables<F> {
     pub(crate) fn give_run(&mut self, image: u32, base: u64, address: u64, pages: u64) -> bool
         requires there { image < length self.old.site.images }
         requires region { base ≡ (reserve_of (region_at image self.old)).base }
-        ensures {
-            Answers
-                (run_given image base address pages (are_taken_at base (reserve_at image self.old) address pages) self.old)
-                result self.new
-        }
+        ensures { Answers
+            (run_given image base address pages (are_taken_at base (reserve_at image self.old) address pages) self.old)
+            result self.new }
     {
         self.keeps();
         if !has_taken(&self.reserves[image as usize], base, address, pages) {

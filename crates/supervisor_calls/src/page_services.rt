@@ -19,7 +19,8 @@ impl<F: Frames> Domain<F> {
         let reserve = self.region().reserve();
         match self.tables.take_run(self.image, pages) {
             Some(start) => {
-                Ok(self.give(out, reserve.base + PAGE_BYTES as u64 * start as u64))
+                let address = reserve.base + PAGE_BYTES as u64 * start as u64;
+                Ok(self.give(out, address))
             }
             None => Ok(OUT_OF_RESOURCES),
         }
@@ -33,8 +34,8 @@ impl<F: Frames> Domain<F> {
             return Ok(INVALID_PARAMETER);
         }
         self.tables.keeps();
-        let reserve = self.region().reserve();
-        if self.tables.give_run(self.image, reserve.base, address, pages) {
+        let base = self.region().reserve().base;
+        if self.tables.give_run(self.image, base, address, pages) {
             Ok(SUCCESS)
         } else {
             Ok(NOT_FOUND)
