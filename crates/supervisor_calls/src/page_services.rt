@@ -18,7 +18,10 @@ impl<F: Frames> Domain<F> {
         self.ask_out(out)?;
         let reserve = self.region().reserve();
         match self.tables.take_run(self.image, pages) {
-            Some(start) => { Ok(self.give(out, reserve.base + PAGE_BYTES as u64 * start as u64)) }
+            Some(start) => {
+                let address = reserve.base + PAGE_BYTES as u64 * start as u64;
+                Ok(self.give(out, address))
+            }
             None => Ok(OUT_OF_RESOURCES),
         }
     }
@@ -31,11 +34,8 @@ impl<F: Frames> Domain<F> {
             return Ok(INVALID_PARAMETER);
         }
         self.tables.keeps();
-        let reserve = self.region().reserve();
-        if self
-            .tables
-            .give_run(self.image, reserve.base, address, pages)
-        {
+        let base = self.region().reserve().base;
+        if self.tables.give_run(self.image, base, address, pages) {
             Ok(SUCCESS)
         } else {
             Ok(NOT_FOUND)

@@ -12,7 +12,7 @@ returns g c =
     let some : 1 ≤ c.args.pages = omega arith in
     let released =
     pages_are_released _ c.args.self.now c.self.view_is c.keeps.ensures.tables c.keeps.ensures.placed c.self.invariant c.region.result
-    c.reserve-reserve.result c.args.address c.args.pages c.region.ensures.value c.reserve-reserve.ensures some c.if-address-ne0.false
+    c.reserve-base.result c.args.address c.args.pages c.region.ensures.value c.reserve-base.ensures some c.if-address-ne0.false
     c.give_run.result c.give_run.new.self c.give_run.ensures in
     let status = λ (b : Bool). Status (if b then success else not_found) in
     let told : spoken c.if-give_run.result ≡ status c.give_run.result = elim c.if-give_run.branch [
