@@ -1,9 +1,9 @@
 -- Words of memory, one behind the other, as the front that a fetch answers.
 use Rattle.std.proofs.Common.{◌≡◌, ℕ, ◌+◌, ◌-◌, ◌≤◌, ◌<◌, List, [], ◌++◌, length, take, drop, replicate, All, refl, sym, ap, ◌∙◌, append_assoc, arith}
 use Rattle.std.proofs.Math.Seq.{take-add, take-append-add, drop-append-add}
-use Rattle.std.proofs.lemmas.List.{take_at, drop-drop, length-append, length-take-le, length-drop, take-append-le, append-nil, take-replicate, replicate-append-replicate}
+use Rattle.std.proofs.lemmas.List.{take_at, drop-drop, length-append, length-take-le, length-drop, append-nil, take-replicate, replicate-append-replicate}
 use Rattle.std.proofs.lemmas.List.Elements.{All-take, All-drop}
-use Rattle.mm_base.specs.Numbers.{number_of, number_in, bytes_of_word, overwritten}
+use Rattle.mm_base.specs.Numbers.{number_in, bytes_of_word, overwritten}
 use Rattle.mm_base.proofs.NumberLemmas.{bytes_of_word-filled}
 
 module _ (bytes : List ℕ) (small : All (λ byte. byte < 256) bytes) where

@@ -1,5 +1,5 @@
 -- Which cells an access is of that a verdict lets pass.
-use Rattle.std.proofs.Common.{◌≡◌, ◌⊎◌, inl, inr, ℕ, zero, suc, ◌+◌, ◌≤◌, ◌<◌, Bool, true, false, ◌&&◌, if◌then◌else◌, refl, sym, ap, ◌∙◌, subst, arith}
+use Rattle.std.proofs.Common.{◌≡◌, inl, inr, ℕ, zero, suc, ◌+◌, ◌≤◌, ◌<◌, Bool, true, false, ◌&&◌, refl, sym, ap, ◌∙◌, subst, arith}
 use Rattle.std.proofs.lemmas.Bool.Decides.{nat_tests}
 use Rattle.mm_base.specs.Cells.{is_msr}
 use Rattle.mm_base.specs.Records.{RecordsState}
@@ -12,7 +12,7 @@ use Rattle.platform_model.specs.Cells.{IsPortWidth}
 use Rattle.secure_policy.specs.Laws.{passes}
 use Rattle.secure_policy.specs.Places.{have_cells, place_of_cells}
 use Rattle.secure_policy.specs.Verdicts.{verdict_on, verdict_at}
-use Rattle.supervisor_calls.specs.Accesses.{decided, has_used_quota, is_cell_write, with_quota}
+use Rattle.supervisor_calls.specs.Accesses.{decided, with_quota}
 use Rattle.supervisor_calls.specs.Tables.{Site}
 
 there_by : (there home : Bool) (ruled : Verdict) → passes (verdict_at (place_of_cells there) home ruled) ≡ true → there ≡ true

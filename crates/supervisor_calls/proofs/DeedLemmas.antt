@@ -1,5 +1,5 @@
 -- No deed is answered with out of memory.
-use Rattle.std.proofs.Common.{◌≡◌, ℕ, Bool, true, false, if◌then◌else◌, nat_lt, List, length, Result, Ok, Err}
+use Rattle.std.proofs.Common.{Bool, true, false, if◌then◌else◌, nat_lt, length}
 use Rattle.mm_base.specs.Bus.{IsOutOfMemory}
 use Rattle.mm_base.specs.Statuses.{access_denied}
 use Rattle.mm_base.specs.declared.access.Denial.{Denial}

@@ -1,5 +1,5 @@
 -- What passes, passes at each unit; and an image's own pages pass.
-use Rattle.std.proofs.Common.{◌≡◌, ◌≢◌, ◌⊎◌, inl, inr, ℕ, ◌+◌, ◌*◌, ◌≤◌, ◌^◌, Bool, true, false, ◌||◌, if◌then◌else◌, ◌&&◌, nat_lt, List, [], ◌∷◌, ◌++◌, map, Option, Some, None, All, append_assoc, refl, sym, ap, ◌∙◌, subst, arith}
+use Rattle.std.proofs.Common.{◌≡◌, ◌≢◌, ℕ, ◌+◌, ◌≤◌, ◌^◌, Bool, true, false, ◌||◌, if◌then◌else◌, ◌&&◌, nat_lt, List, [], ◌∷◌, ◌++◌, map, Option, Some, None, append_assoc, refl, sym, ap, ◌∙◌, arith}
 use Rattle.std.specs.List.{slice_get, list_any}
 use Rattle.std.specs.Option.{option_map_or}
 use Rattle.std.proofs.lemmas.Bool.Decides.{nat_tests}
@@ -15,14 +15,10 @@ use Rattle.mm_base.specs.Rights.{have_right}
 use Rattle.mm_base.specs.declared.access.Kind.TheVariants as kinds
 use Rattle.mm_base.specs.declared.access.Right.{Right}
 use Rattle.mm_base.specs.declared.access.Right.TheVariants.{Read, Write, Execute}
-use Rattle.mm_base.specs.declared.access.Verdict.{Verdict}
-use Rattle.mm_base.specs.declared.access.Verdict.TheVariants.{Pass}
-use Rattle.mm_base.specs.declared.access.Why.TheVariants as whys
 use Rattle.mm_base.specs.declared.range.Range.{Range}
 use Rattle.secure_policy.specs.Laws.{AreHomes}
 use Rattle.secure_policy.specs.Places.{place_of_bytes}
 use Rattle.secure_policy.specs.Verdicts.{verdict_on, verdict_at, verdict_by_rules, units_from}
-use Rattle.secure_policy.specs.declared.place.Place.{Place}
 use Rattle.secure_policy.specs.declared.place.Place.TheVariants.{Nowhere, Mmram, LaneWindow, Cells}
 use Rattle.secure_policy.proofs.UnitLemmas.{passes_at_unit}
 use Rattle.supervisor_calls.specs.Accesses.{decided, basis_of}

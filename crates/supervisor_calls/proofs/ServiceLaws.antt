@@ -1,5 +1,5 @@
 -- A whole service goes along with what each of its parts goes along with, and leaves alone what each leaves alone.
-use Rattle.std.proofs.Common.{◌≡◌, ℕ, ◌+◌, ◌*◌, ◌%◌, ◌^◌, Bool, true, false, ◌&&◌, if◌then◌else◌, nat_lt, List, Option, Result, Ok, Err, refl, sym, ap, ◌∙◌}
+use Rattle.std.proofs.Common.{◌≡◌, ℕ, ◌+◌, ◌*◌, ◌%◌, ◌^◌, Bool, true, false, ◌&&◌, if◌then◌else◌, nat_lt, List, Result, Ok, Err, refl, sym, ap, ◌∙◌}
 use Rattle.std.specs.List.{slice_get}
 use Rattle.std.specs.Option.{option_map_or}
 use Rattle.image_table.specs.declared.placed_image.PlacedImage.{PlacedImage}
@@ -11,8 +11,7 @@ use Rattle.mm_base.specs.declared.access.Verdict.{Verdict}
 use Rattle.mm_base.specs.declared.access.Verdict.TheVariants.{Pass, Deny}
 use Rattle.mm_base.specs.declared.access.Why.{Why}
 use Rattle.mm_base.specs.declared.bus.Served.{Served}
-use Rattle.mm_base.specs.declared.bus.Served.TheVariants.{Status, Stop}
-use Rattle.mm_base.specs.declared.guid.Guid.{Guid}
+use Rattle.mm_base.specs.declared.bus.Served.TheVariants.{Status}
 use Rattle.mm_base.specs.declared.region.Region.{Region}
 use Rattle.mm_base.specs.declared.service.Service.{Service}
 use Rattle.mmi_registry.specs.Registry.{RegistryState}
@@ -21,7 +20,7 @@ use Rattle.supervisor_calls.specs.Accesses.{bytes_at, denial_of, number_at}
 use Rattle.supervisor_calls.specs.Deeds.{Deed, Returns, Reads, Names, Asks, Writes, Clears, SeesPool, SetsPool, SeesReserve, SetsReserve}
 use Rattle.supervisor_calls.specs.Deeds.{SeesHandlers, SetsHandlers, SeesInterfaces, SetsInterfaces, going_on, let_through, done}
 use Rattle.supervisor_calls.specs.Deeds.{number_seen, guid_seen, out_asked, number_written, bytes_cleared, pool_in, with_pool, reserve_in, with_reserve}
-use Rattle.supervisor_calls.specs.Deeds.{after_write, after_clearing, with_denied, with_handlers, with_interfaces}
+use Rattle.supervisor_calls.specs.Deeds.{after_write, after_clearing, with_handlers, with_interfaces}
 use Rattle.supervisor_calls.specs.Domains.{DomainState, read_at, seen_registers, verdict_in, write_verdict}
 use Rattle.supervisor_calls.specs.Laws.{along, GoesAlong, IsLeftAlone, ServicesGoAlong, ServicesLeaveAlone, ListsStayAfterLock}
 use Rattle.supervisor_calls.specs.Services.{and_then, argument, argument_count, arguments_at, deed_of, ends_at_lock, region_in, served, stopping}

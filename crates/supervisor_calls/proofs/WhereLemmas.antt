@@ -1,5 +1,5 @@
 -- Where an access to memory lies that a verdict lets pass: in the image's own memory, whose pages are live, or in the device window.
-use Rattle.std.proofs.Common.{◌≡◌, ◌⊎◌, inl, inr, ℕ, zero, suc, ◌+◌, ◌*◌, ◌-◌, ◌≤◌, ◌<◌, ◌^◌, Bool, true, false, ◌&&◌, if◌then◌else◌, nat_lt, nat_le, List, [], ◌∷◌, length, Option, Some, None, All, refl, sym, ap, ◌∙◌, subst, arith}
+use Rattle.std.proofs.Common.{◌≡◌, ◌⊎◌, inl, inr, ℕ, zero, suc, ◌+◌, ◌*◌, ◌-◌, ◌≤◌, ◌^◌, Bool, true, false, ◌&&◌, if◌then◌else◌, nat_lt, List, [], ◌∷◌, Option, Some, None, All, refl, sym, ap, ◌∙◌, subst, arith}
 use Rattle.std.specs.List.{list_any, slice_get}
 use Rattle.std.specs.Option.{option_map_or}
 use Rattle.std.proofs.lemmas.Bool.Decides.{nat_tests}
@@ -29,8 +29,8 @@ use Rattle.secure_policy.specs.Verdicts.{verdict_on, verdict_at, verdict_by_rule
 use Rattle.secure_policy.specs.declared.place.Place.{Place}
 use Rattle.secure_policy.specs.declared.place.Place.TheVariants.{Nowhere, Mmram, LaneWindow, Cells}
 use Rattle.secure_policy.proofs.LawLemmas.{of_each_rule}
-use Rattle.supervisor_calls.specs.Accesses.{decided, basis_of}
-use Rattle.supervisor_calls.specs.Tables.{Site, TablesState, IsTables, IsRegionLive}
+use Rattle.supervisor_calls.specs.Accesses.{decided}
+use Rattle.supervisor_calls.specs.Tables.{TablesState, IsTables, IsRegionLive}
 
 -- n bytes from an address lie in memory, on live pages
 pub record InMemory (pages : List Bool) (at n : ℕ) : Type 0 where

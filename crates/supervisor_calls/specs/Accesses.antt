@@ -1,9 +1,9 @@
--- What an image's accesses to memory come to: the verdict first, then the record of a denial, or the effect on just these bytes.
-use Rattle.std.specs.Prelude.{◌≡◌, ℕ, ◌-◌, ◌%◌, Bool, true, false, ◌&&◌, if◌then◌else◌, nat_lt, nat_le, List, [], ◌∷◌, ◌++◌, length, take, drop, replicate, find, ◌==◌, Option, Some, None, Result, Ok, Err, slice_get, slice_index}
+-- What an image's accesses to memory come to: the verdict first, then the record of a denial, or the effect on just
+-- these bytes.
+use Rattle.std.specs.Prelude.{ℕ, ◌-◌, ◌%◌, Bool, true, false, ◌&&◌, if◌then◌else◌, nat_lt, nat_le, List, [], ◌∷◌, ◌++◌, length, take, drop, find, ◌==◌, Option, Some, None, Result, Ok, Err, slice_get, slice_index}
 use Rattle.std.specs.List.{range_with_len}
 use Rattle.std.specs.Option.{option_map_or}
 use Rattle.image_table.specs.ImageTable.{is_home_at, name_at}
-use Rattle.image_table.specs.declared.placed_image.PlacedImage.{PlacedImage}
 use Rattle.mm_base.specs.Cells.{is_device_byte}
 use Rattle.mm_base.specs.Numbers.{number_of, number_in, low_bytes, overwritten}
 use Rattle.mm_base.specs.Records.{RecordsState}
@@ -20,7 +20,6 @@ use Rattle.mm_base.specs.declared.access.Why.{Why}
 use Rattle.mm_base.specs.declared.access.Why.TheVariants as whys
 use Rattle.mm_base.specs.declared.bus.Target.{Target}
 use Rattle.mm_base.specs.declared.bus.Target.TheVariants.{Service, Code, Other}
-use Rattle.mm_base.specs.declared.cells.CellWrite.{CellWrite}
 use Rattle.mm_base.specs.declared.cells.Saved.{Saved}
 use Rattle.platform_model.specs.Cells.{register_in, with_register}
 use Rattle.secure_policy.specs.Laws.{passes}
@@ -54,17 +53,22 @@ with_denial denial acting =
 -- the n bytes at an address: those of the device window, or those of memory
 abbrev pub bytes_at : Live → ℕ → ℕ → List ℕ
 bytes_at live at n =
-    if is_device_byte at then take n (drop (at - 0xfe000000) live.platform.device) else take n (drop (at - 0x80000000) live.memory)
+    if is_device_byte at then take n (drop (at - 0xfe000000) live.platform.device)
+    else take n (drop (at - 0x80000000) live.memory)
 
 -- the same with a piece written over those from an address on
 abbrev pub with_bytes : ℕ → List ℕ → Live → Live
 with_bytes at piece live =
     if is_device_byte at
-    then record live { platform = record live.platform { device = overwritten live.platform.device (at - 0xfe000000) piece } }
+    then record live {
+      platform = record live.platform {
+        device = overwritten live.platform.device (at - 0xfe000000) piece;
+      };
+    }
     else record live { memory = overwritten live.memory (at - 0x80000000) piece }
 
--- A fetch answers the bytes in front of zeros, and a read the number in the bytes; where the access is denied, both answer the denial, which
--- is recorded.
+-- A fetch answers the bytes in front of zeros, and a read the number in the bytes; where the access is denied, both
+-- answer the denial, which is recorded.
 abbrev pub answered : {A : Type 0} → Verdict → (Why → Denial) → A → Acting → Result A Denial × Acting
 answered (Pass why) denial value acting = (Ok value, acting)
 answered (Deny why) denial value acting = (Err (denial why), with_denial (denial why) acting)
@@ -73,16 +77,19 @@ answered (Deny why) denial value acting = (Err (denial why), with_denial (denial
 abbrev pub has_used_quota : RecordsState → Bool
 has_used_quota records = nat_le 16 (length records.writes)
 
--- whether a write there is one to cells: each but one to memory outside the device window; saved registers are written by nobody
+-- whether a write there is one to cells: each but one to memory outside the device window; saved registers are written
+-- by nobody
 abbrev pub is_cell_write : Kind → ℕ → Bool
 is_cell_write kinds.Memory at = is_device_byte at
 is_cell_write kinds.Io at = true
 is_cell_write kinds.Msr at = true
 is_cell_write kinds.Saved at = false
 
--- a write that the verdict lets pass is denied where it is one to cells, and the invocation has made all that it may make
+-- a write that the verdict lets pass is denied where it is one to cells, and the invocation has made all that it may
+-- make
 abbrev pub with_quota : Kind → ℕ → RecordsState → Verdict → Verdict
-with_quota kind at records (Pass why) = if is_cell_write kind at && has_used_quota records then Deny whys.Quota else Pass why
+with_quota kind at records (Pass why) =
+    if is_cell_write kind at && has_used_quota records then Deny whys.Quota else Pass why
 with_quota kind at records (Deny why) = Deny why
 
 -- The number in n units: the lowest byte or port is the first; a register is one unit.
@@ -111,13 +118,20 @@ held_after kinds.Saved n value = value
 abbrev pub with_cell_write : Kind → ℕ → ℕ → ℕ → RecordsState → RecordsState
 with_cell_write kind at n value records =
     if is_cell_write kind at
-    then record records { writes = records.writes ++ record { kind = kind; at = at; n = n; value = held_after kind n value } ∷ [] }
+    then record records {
+      writes = records.writes ++ record { kind = kind; at = at; n = n; value = held_after kind n value } ∷ [];
+    }
     else records
 
 -- A write that passes changes just its units; one that is denied changes the records alone.
 abbrev pub changed : Verdict → Kind → ℕ → ℕ → ℕ → Acting → Result (Unit {0}) Denial × Acting
-changed (Pass why) kind at n value acting =
-    (Ok tt, record { live = with_number kind at n value acting.live; records = with_cell_write kind at n value acting.records })
+changed (Pass why) kind at n value acting = (
+  Ok tt,
+  record {
+    live = with_number kind at n value acting.live;
+    records = with_cell_write kind at n value acting.records;
+  },
+)
 changed (Deny why) kind at n value acting =
     (Err (denial_of kind rights.Write at n why), with_denial (denial_of kind rights.Write at n why) acting)
 
@@ -127,7 +141,8 @@ service_at page at = find (λ number. entry_of page number == at) (range_with_le
 
 -- the service of an image with its entry at an address
 abbrev pub service_of : Site → ℕ → ℕ → Option ℕ
-service_of site image at = option_map_or (λ placed. service_at (service_page_of placed.region).base at) (slice_get site.images image) None
+service_of site image at =
+    option_map_or (λ placed. service_at (service_page_of placed.region).base at) (slice_get site.images image) None
 
 -- code stands at an even address where two bytes may be executed
 abbrev pub is_code : Site → ℕ → ℕ → ℕ → Bool

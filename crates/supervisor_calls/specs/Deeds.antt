@@ -1,8 +1,8 @@
--- What services are made of. A deed is one thing that a service does, and what comes after it; making it answers the service and leaves a
--- domain. Each access of a deed is decided by itself, so that what a service does needs no condition.
-use Rattle.std.specs.Prelude.{ℕ, Bool, if◌then◌else◌, nat_lt, List, [], length, take, drop, get_or, set, Result, Ok, Err}
+-- What services are made of. A deed is one thing that a service does, and what comes after it; making it answers the
+-- service and leaves a domain. Each access of a deed is decided by itself, so that what a service does needs no
+-- condition.
+use Rattle.std.specs.Prelude.{ℕ, Bool, if◌then◌else◌, nat_lt, List, [], length, get_or, set, Result, Ok, Err}
 use Rattle.mm_base.specs.Frames.{zeros}
-use Rattle.mm_base.specs.Numbers.{bytes_of_word}
 use Rattle.mm_base.specs.Statuses.{access_denied}
 use Rattle.mm_base.specs.declared.access.Denial.{Denial}
 use Rattle.mm_base.specs.declared.access.Kind.{Kind}
@@ -33,8 +33,8 @@ pub data Deed : Type 0 where
   Writes : (kind : Kind) (at n value : ℕ) (next : Deed) → Deed
   -- n bytes of memory become 0
   Clears : (at n : ℕ) (next : Deed) → Deed
-  -- what is kept for the image, or for all, is looked at or changed: the blocks of its pool, which of its reserve pages are taken, the
-  -- handlers, the interfaces
+  -- what is kept for the image, or for all, is looked at or changed: the blocks of its pool, which of its reserve pages
+  -- are taken, the handlers, the interfaces
   SeesPool : (next : List Block → Deed) → Deed
   SetsPool : (pool : List Block) (next : Deed) → Deed
   SeesReserve : (next : List Bool → Deed) → Deed
@@ -44,7 +44,8 @@ pub data Deed : Type 0 where
   SeesInterfaces : (next : DbState → Deed) → Deed
   SetsInterfaces : (protocols : DbState) (next : Deed) → Deed
 
--- A denial is recorded. The service is answered ACCESS_DENIED, but the 8th denial stops the invocation, and so does any after it.
+-- A denial is recorded. The service is answered ACCESS_DENIED, but the 8th denial stops the invocation, and so does any
+-- after it.
 abbrev pub refusal : Denial → DomainState → Served
 refusal denial domain = if nat_lt (length domain.records.denials) 7 then Status access_denied else Stop denial
 
@@ -55,7 +56,8 @@ abbrev pub refused : {A : Type 0} → Denial → DomainState → Result A Served
 refused denial domain = (Err (refusal denial domain), with_denied denial domain)
 
 -- what a verdict lets through: a value, and the domain as it is then; or else the denial
-abbrev pub let_through : {A : Type 0} → Verdict → (Why → Denial) → A → DomainState → DomainState → Result A Served × DomainState
+abbrev pub let_through : {A : Type 0}
+    → Verdict → (Why → Denial) → A → DomainState → DomainState → Result A Served × DomainState
 let_through (Pass why) denial value after domain = (Ok value, after)
 let_through (Deny why) denial value after domain = refused (denial why) domain
 
@@ -72,7 +74,8 @@ guid_seen pointer domain =
 
 abbrev pub out_asked : ℕ → DomainState → Result (Unit {0}) Served × DomainState
 out_asked pointer domain =
-    let_through (write_verdict domain kinds.Memory pointer 8) (denial_of kinds.Memory rights.Write pointer 8) tt domain domain
+    let_through (write_verdict domain kinds.Memory pointer 8) (denial_of kinds.Memory rights.Write pointer 8) tt
+    domain domain
 
 -- the domain after a number was written to n units, and after n bytes became 0
 abbrev pub after_write : Kind → ℕ → ℕ → ℕ → DomainState → DomainState
@@ -88,11 +91,13 @@ after_clearing at n domain =
 
 abbrev pub number_written : Kind → ℕ → ℕ → ℕ → DomainState → Result (Unit {0}) Served × DomainState
 number_written kind at n value domain =
-    let_through (write_verdict domain kind at n) (denial_of kind rights.Write at n) tt (after_write kind at n value domain) domain
+    let_through (write_verdict domain kind at n) (denial_of kind rights.Write at n) tt
+    (after_write kind at n value domain) domain
 
 abbrev pub bytes_cleared : ℕ → ℕ → DomainState → Result (Unit {0}) Served × DomainState
 bytes_cleared at n domain =
-    let_through (write_verdict domain kinds.Memory at n) (denial_of kinds.Memory rights.Write at n) tt (after_clearing at n domain) domain
+    let_through (write_verdict domain kinds.Memory at n) (denial_of kinds.Memory rights.Write at n) tt
+    (after_clearing at n domain) domain
 
 -- what the domain's image holds, and the domain where it holds something else
 abbrev pub pool_in : DomainState → List Block
@@ -131,7 +136,8 @@ with_interfaces protocols domain =
     if domain.tables.locked then domain else record domain { tables = record domain.tables { protocols = protocols } }
 
 -- what comes after a part that was let through; where it wasn't, the service is answered
-abbrev pub going_on : {A : Type 0} → Result A Served × DomainState → (A → DomainState → Served × DomainState) → Served × DomainState
+abbrev pub going_on : {A : Type 0}
+    → Result A Served × DomainState → (A → DomainState → Served × DomainState) → Served × DomainState
 going_on (Ok value, domain) next = next value domain
 going_on (Err served, domain) next = (served, domain)
 
@@ -141,7 +147,8 @@ done (Returns status) domain = (Status status, domain)
 done (Reads kind at n next) domain = going_on (number_seen kind at n domain) (λ value domain. done (next value) domain)
 done (Names pointer next) domain = going_on (guid_seen pointer domain) (λ guid domain. done (next guid) domain)
 done (Asks pointer next) domain = going_on (out_asked pointer domain) (λ value domain. done next domain)
-done (Writes kind at n value next) domain = going_on (number_written kind at n value domain) (λ value domain. done next domain)
+done (Writes kind at n value next) domain =
+    going_on (number_written kind at n value domain) (λ value domain. done next domain)
 done (Clears at n next) domain = going_on (bytes_cleared at n domain) (λ value domain. done next domain)
 done (SeesPool next) domain = done (next (pool_in domain)) domain
 done (SetsPool pool next) domain = done next (with_pool pool domain)

@@ -1,5 +1,5 @@
 -- A domain: what one invocation of one image may touch, and what its accesses to memory answer and leave.
-use Rattle.std.specs.Prelude.{ℕ, ◌-◌, Bool, true, false, if◌then◌else◌, List, ◌++◌, replicate, slice_index, Result}
+use Rattle.std.specs.Prelude.{ℕ, ◌-◌, if◌then◌else◌, List, ◌++◌, replicate, slice_index, Result}
 use Rattle.mm_base.specs.Numbers.{number_of}
 use Rattle.mm_base.specs.Records.{RecordsState}
 use Rattle.mm_base.specs.declared.access.Denial.{Denial}
@@ -11,9 +11,10 @@ use Rattle.mm_base.specs.declared.access.Verdict.{Verdict}
 use Rattle.mm_base.specs.declared.bus.Target.{Target}
 use Rattle.mm_base.specs.declared.cells.Saved.{Saved}
 use Rattle.supervisor_calls.specs.Accesses.{Acting, decided, denial_of, bytes_at, answered, with_quota, changed, service_of, is_code, target_by}
-use Rattle.supervisor_calls.specs.Tables.{Site, TablesState}
+use Rattle.supervisor_calls.specs.Tables.{TablesState}
 
--- What contracts see of a domain: the tables, whose image acts, the saved registers, and the records of this invocation.
+-- What contracts see of a domain: the tables, whose image acts, the saved registers, and the records of this
+-- invocation.
 pub record DomainState : Type 0 where
   pub tables : TablesState
   pub image : ℕ
@@ -38,7 +39,7 @@ acted domain acting = record domain { tables = record domain.tables { live = act
 abbrev pub with_acting : {A : Type 0} → DomainState → A × Acting → A × DomainState
 with_acting domain told = (told.0, acted domain told.1)
 
--- the verdict on an access of a domain's image, and that on a write, of which cells bear only so many
+-- the verdict on an access of a domain's image, and that on a write, whose number is limited for cells
 abbrev pub verdict_in : DomainState → Kind → ℕ → ℕ → Right → Verdict
 verdict_in domain kind at n right = decided domain.tables.site domain.image kind at n right (trapped_of domain)
 
@@ -49,12 +50,14 @@ write_verdict domain kind at n = with_quota kind at domain.records (verdict_in d
 abbrev pub fetched : DomainState → ℕ → ℕ → Result (List ℕ) Denial × DomainState
 fetched domain at n =
     let bytes = bytes_at domain.tables.live at n ++ replicate (18 - n) 0 in
-    with_acting domain (answered (verdict_in domain kinds.Memory at n rights.Execute) (denial_of kinds.Memory rights.Execute at n) bytes (acting_of domain))
+    let verdict = verdict_in domain kinds.Memory at n rights.Execute in
+    with_acting domain (answered verdict (denial_of kinds.Memory rights.Execute at n) bytes (acting_of domain))
 
 abbrev pub read_at : DomainState → ℕ → ℕ → Result ℕ Denial × DomainState
 read_at domain at n =
     let number = number_of (bytes_at domain.tables.live at n) in
-    with_acting domain (answered (verdict_in domain kinds.Memory at n rights.Read) (denial_of kinds.Memory rights.Read at n) number (acting_of domain))
+    let verdict = verdict_in domain kinds.Memory at n rights.Read in
+    with_acting domain (answered verdict (denial_of kinds.Memory rights.Read at n) number (acting_of domain))
 
 abbrev pub written_at : DomainState → ℕ → ℕ → ℕ → Result (Unit {0}) Denial × DomainState
 written_at domain at n value =
@@ -63,4 +66,5 @@ written_at domain at n value =
 -- what stands at the target of a native call
 abbrev pub target_at : DomainState → ℕ → Target
 target_at domain at =
-    target_by (service_of domain.tables.site domain.image at) (is_code domain.tables.site domain.image (trapped_of domain) at)
+    target_by (service_of domain.tables.site domain.image at)
+    (is_code domain.tables.site domain.image (trapped_of domain) at)

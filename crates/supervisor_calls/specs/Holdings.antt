@@ -1,5 +1,6 @@
--- What an image holds: the blocks of its pool and the pages of its reserve, and which of them are found or given back next.
-use Rattle.std.specs.Prelude.{ℕ, ◌+◌, ◌*◌, ◌-◌, ◌/◌, ◌%◌, Bool, ◌==◌, ◌&&◌, ◌||◌, not, nat_le, List, [], ◌∷◌, length, take, drop, find, Option, Some, None}
+-- What an image holds: the blocks of its pool and the pages of its reserve, and which of them are found or given back
+-- next.
+use Rattle.std.specs.Prelude.{ℕ, ◌+◌, ◌-◌, ◌/◌, ◌%◌, Bool, ◌==◌, ◌&&◌, ◌||◌, not, nat_le, List, [], ◌∷◌, length, take, drop, find, Option, Some, None}
 use Rattle.std.specs.List.{range_with_len, list_any, list_all}
 use Rattle.std.specs.Option.{option_map}
 use Rattle.pool_tree.specs.Pool.{Block, arena_bytes}
@@ -22,7 +23,8 @@ is_apart size place block = nat_le (place + size) block.place || nat_le (block.p
 
 -- whether a block of this size may lie at a place: a multiple of its size, within the arena, apart from each live block
 abbrev pub may_lie : List Block → ℕ → ℕ → Bool
-may_lie pool size place = (place % size == 0) && (nat_le (place + size) arena_bytes && list_all (is_apart size place) pool)
+may_lie pool size place =
+    (place % size == 0) && (nat_le (place + size) arena_bytes && list_all (is_apart size place) pool)
 
 -- the block for n bytes that comes next: it has the lowest place where it may lie
 unfoldable pub block_of_size : List Block → Option ℕ → Option Block
@@ -39,7 +41,8 @@ is_live_at base pool address = nat_le base address && list_any (λ block. block.
 
 -- whether n pages from a start on are there, and each is taken, or each is free
 abbrev pub are_taken : List Bool → ℕ → ℕ → Bool
-are_taken reserve start n = nat_le (start + n) (length reserve) && list_all (λ taken. taken) (take n (drop start reserve))
+are_taken reserve start n =
+    nat_le (start + n) (length reserve) && list_all (λ taken. taken) (take n (drop start reserve))
 
 abbrev pub are_free : List Bool → ℕ → ℕ → Bool
 are_free reserve start n = nat_le (start + n) (length reserve) && list_all not (take n (drop start reserve))

@@ -12,7 +12,8 @@ use Rattle.supervisor_calls.specs.Tables.{TablesState}
 
 -- the region of an image; where there is no such image, one of no pages at 0
 abbrev pub region_at : ℕ → TablesState → Region
-region_at image tables = option_map_or (λ placed. placed.region) (slice_get tables.site.images image) (record { base = 0; pages = 0 })
+region_at image tables =
+    option_map_or (λ placed. placed.region) (slice_get tables.site.images image) (record { base = 0; pages = 0 })
 
 -- what an image holds, and the tables where it holds something else
 abbrev pub pool_at : ℕ → TablesState → List Block
@@ -25,7 +26,8 @@ abbrev pub reserve_at : ℕ → TablesState → List Bool
 reserve_at image tables = get_or tables.live.reserves image []
 
 abbrev pub reserve_put : ℕ → List Bool → TablesState → TablesState
-reserve_put image reserve tables = record tables { live = record tables.live { reserves = set tables.live.reserves image reserve } }
+reserve_put image reserve tables =
+    record tables { live = record tables.live { reserves = set tables.live.reserves image reserve } }
 
 -- the block that was found for an image becomes live, and its place is the answer
 abbrev pub block_taken : ℕ → Option Block → TablesState → Option ℕ × TablesState
@@ -41,7 +43,8 @@ block_freed image place false tables = (false, tables)
 -- the run of n pages that was found for an image becomes taken, and its first page is the answer
 abbrev pub run_taken : ℕ → ℕ → Option ℕ → TablesState → Option ℕ × TablesState
 run_taken image n None tables = (None, tables)
-run_taken image n (Some start) tables = (Some start, reserve_put image (with_run true start n (reserve_at image tables)) tables)
+run_taken image n (Some start) tables =
+    (Some start, reserve_put image (with_run true start n (reserve_at image tables)) tables)
 
 -- the tables where n bytes of memory from an address on are 0
 abbrev pub cleared : ℕ → ℕ → TablesState → TablesState
@@ -50,6 +53,9 @@ cleared at n tables =
 
 -- n pages of an image from an address on become 0 and free, where they are taken; its reserve begins at a base
 abbrev pub run_given : ℕ → ℕ → ℕ → ℕ → Bool → TablesState → Bool × TablesState
-run_given image base address n true tables =
-    (true, reserve_put image (with_run false (page_at base address) n (reserve_at image tables)) (cleared address (4096 * n) tables))
+run_given image base address n true tables = (
+  true,
+  reserve_put image (with_run false (page_at base address) n (reserve_at image tables))
+      (cleared address (4096 * n) tables),
+)
 run_given image base address n false tables = (false, tables)

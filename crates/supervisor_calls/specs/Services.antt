@@ -1,5 +1,6 @@
--- The services that an image may call, by UEFI's and PI's names and this project's own numbers, arguments and statuses. Each is a deed: its
--- causes to be refused in their order, then one effect. Where it is refused, nothing changes but the records.
+-- The services that an image may call, by UEFI's and PI's names and this project's own numbers, arguments and statuses.
+-- Each is a deed: its causes to be refused in their order, then one effect. Where it is refused, nothing changes but
+-- the records.
 use Rattle.std.specs.Prelude.{ℕ, ◌+◌, ◌*◌, ◌-◌, ◌%◌, ◌^◌, Bool, true, false, if◌then◌else◌, ◌==◌, ◌&&◌, ◌||◌, not, nat_lt, List, [], ◌∷◌, slice_get, Option, Some, None, Result, Ok, Err}
 use Rattle.std.specs.Option.{option_map, option_map_or}
 use Rattle.mm_base.specs.Bus.{Meaning}
@@ -11,7 +12,6 @@ use Rattle.mm_base.specs.declared.bus.Served.{Served}
 use Rattle.mm_base.specs.declared.bus.Served.TheVariants.{Status, Stop}
 use Rattle.mm_base.specs.declared.guid.Guid.{Guid}
 use Rattle.mm_base.specs.declared.handler.Handler.{Handler}
-use Rattle.mm_base.specs.declared.handler.HandlerBody.{HandlerBody}
 use Rattle.mm_base.specs.declared.handler.HandlerBody.TheVariants.{Code}
 use Rattle.mm_base.specs.declared.region.Region.{Region}
 use Rattle.mm_base.specs.declared.service.Service.{Service}
@@ -56,7 +56,9 @@ pool_allocation region size out =
 abbrev pub pool_release : Region → ℕ → Deed
 pool_release region address =
     let base = (pool_of region).base in
-    SeesPool (λ pool. if is_live_at base pool address then SetsPool (without_block pool (address - base)) (Returns success) else Returns not_found)
+    SeesPool (λ pool.
+    if is_live_at base pool address then SetsPool (without_block pool (address - base)) (Returns success)
+    else Returns not_found)
 
 -- AllocatePages: the lowest free run of the image's own reserve, whose bytes stay as they are
 abbrev pub run_given : Region → ℕ → ℕ → List Bool → Option ℕ → Deed
@@ -76,7 +78,8 @@ page_release region address pages =
     if (pages == 0) || not (address % 4096 == 0) then Returns invalid_parameter
     else SeesReserve (λ reserve.
     if are_taken_at base reserve address pages
-    then Clears address (4096 * pages) (SetsReserve (with_run false (page_at base address) pages reserve) (Returns success))
+    then Clears address (4096 * pages)
+    (SetsReserve (with_run false (page_at base address) pages reserve) (Returns success))
     else Returns not_found)
 
 -- ---- interfaces
@@ -87,7 +90,8 @@ installation image handle pointer interface out =
     Names pointer (λ guid. Asks out (SeesInterfaces (λ protocols.
     if is_unknown handle protocols.rows || is_duplicate handle guid protocols.rows then Returns invalid_parameter
     else if db.is_at_limit handle image protocols then Returns out_of_resources
-    else SetsInterfaces (with_row handle guid interface image protocols) (gives out (handle_for handle protocols.next)))))
+    else SetsInterfaces (with_row handle guid interface image protocols)
+    (gives out (handle_for handle protocols.next)))))
 
 -- UninstallProtocolInterface: only the image that installed it may
 abbrev pub interface_removed : ℕ → ℕ → Guid → DbState → Option Row → Deed
@@ -151,7 +155,8 @@ handler_removed image number registry (Some handler) =
 abbrev pub unregistration : ℕ → ℕ → Deed
 unregistration image handle =
     if handle == 0 then Returns not_found
-    else SeesHandlers (λ registry. handler_removed image (handle - 1) registry (handler_at (handle - 1) registry.handlers))
+    else SeesHandlers (λ registry.
+    handler_removed image (handle - 1) registry (handler_at (handle - 1) registry.handlers))
 
 -- ---- saved registers, ports, model-specific registers
 
@@ -166,7 +171,8 @@ is_port_width width = (width == 1) || ((width == 2) || (width == 4))
 -- MmIo.Read, which gives 8 bytes whatever the width
 abbrev pub port_read : ℕ → ℕ → ℕ → Deed
 port_read width port out =
-    if is_port_width width then Reads kinds.Io port width (λ value. Asks out (gives out value)) else Returns invalid_parameter
+    if is_port_width width then Reads kinds.Io port width (λ value. Asks out (gives out value))
+    else Returns invalid_parameter
 
 -- MmIo.Write, of the low bytes
 abbrev pub port_write : ℕ → ℕ → ℕ → Deed
@@ -245,10 +251,12 @@ stopping (Err denial, domain) = (Err (Stop denial), domain)
 
 -- Argument k of n, from 0 on: the number in 8 bytes of the stack. One that a service doesn't have is not read, and 0.
 abbrev pub argument : ℕ → ℕ → ℕ → DomainState → Result ℕ Served × DomainState
-argument n stack k domain = if nat_lt k n then stopping (read_at domain ((stack + 8 * k) % 2 ^ 64) 8) else (Ok 0, domain)
+argument n stack k domain =
+    if nat_lt k n then stopping (read_at domain ((stack + 8 * k) % 2 ^ 64) 8) else (Ok 0, domain)
 
 -- the n arguments of a service, read one after another up to the first that is denied
-abbrev pub and_then : {A B : Type 0} → Result A Served × DomainState → (A → DomainState → Result B Served × DomainState) → Result B Served × DomainState
+abbrev pub and_then : {A B : Type 0} → Result A Served × DomainState
+    → (A → DomainState → Result B Served × DomainState) → Result B Served × DomainState
 and_then (Ok value, domain) next = next value domain
 and_then (Err served, domain) next = (Err served, domain)
 
@@ -263,10 +271,11 @@ arguments_at n stack domain =
 -- the region of a domain's image; where there is no such image, one of no pages at 0
 abbrev pub region_in : DomainState → Region
 region_in domain =
-    option_map_or (λ image. image.region) (slice_get domain.tables.site.images domain.image) (record { base = 0; pages = 0 })
+    option_map_or (λ image. image.region) (slice_get domain.tables.site.images domain.image)
+    (record { base = 0; pages = 0 })
 
--- A service is called: after lock those that change the handlers or the interfaces answer ACCESS_DENIED and read nothing; any other reads its
--- arguments, and is done.
+-- A service is called: after lock those that change the handlers or the interfaces answer ACCESS_DENIED and read
+-- nothing; any other reads its arguments, and is done.
 abbrev pub served : Service → ℕ → DomainState → Served × DomainState
 served service stack domain =
     if domain.tables.locked && ends_at_lock service then (Status access_denied, domain)
@@ -277,10 +286,12 @@ served service stack domain =
 abbrev pub all_services : List Service
 all_services =
     services.AllocatePool ∷ services.FreePool ∷ services.AllocatePages ∷ services.FreePages
-    ∷ services.InstallProtocol ∷ services.UninstallProtocol ∷ services.HandleProtocol ∷ services.LocateHandle ∷ services.LocateProtocol
+    ∷ services.InstallProtocol ∷ services.UninstallProtocol ∷ services.HandleProtocol
+    ∷ services.LocateHandle ∷ services.LocateProtocol
     ∷ services.RegisterHandler ∷ services.UnregisterHandler ∷ services.ReadSaveState
     ∷ services.IoRead ∷ services.IoWrite ∷ services.ReadMsr ∷ services.WriteMsr
-    ∷ services.RegisterProtocolNotify ∷ services.InstallConfigurationTable ∷ services.StartupThisProcessor ∷ services.Manage ∷ []
+    ∷ services.RegisterProtocolNotify ∷ services.InstallConfigurationTable
+    ∷ services.StartupThisProcessor ∷ services.Manage ∷ []
 
 -- the service with a number; from 20 on there is none
 abbrev pub served_by_number : ℕ → ℕ → DomainState → Served × DomainState

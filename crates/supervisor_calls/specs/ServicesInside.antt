@@ -25,7 +25,9 @@ DoesOrRefuses deed old answer new = IsOutOfMemory (spoken answer) ⊎ Does deed 
 
 -- an access that is let through, or not, and changes nothing else
 abbrev pub read_let_through : Kind → ℕ → ℕ → DomainState → Result (Unit {0}) Served × DomainState
-read_let_through kind at n domain = let_through (verdict_in domain kind at n rights.Read) (denial_of kind rights.Read at n) tt domain domain
+read_let_through kind at n domain =
+    let_through (verdict_in domain kind at n rights.Read) (denial_of kind rights.Read at n) tt domain domain
 
 abbrev pub write_let_through : Kind → ℕ → ℕ → DomainState → Result (Unit {0}) Served × DomainState
-write_let_through kind at n domain = let_through (write_verdict domain kind at n) (denial_of kind rights.Write at n) tt domain domain
+write_let_through kind at n domain =
+    let_through (write_verdict domain kind at n) (denial_of kind rights.Write at n) tt domain domain

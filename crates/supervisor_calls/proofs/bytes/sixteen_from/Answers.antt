@@ -1,4 +1,3 @@
-use Rattle.std.proofs.Common.{◌≡◌, ℕ, ◌+◌, ◌∙◌, ◌++◌, List, take, drop, replicate, ap, sym}
 use Rattle.supervisor_calls.proofs.ByteLemmas.{sixteen_are}
 use Rattle.supervisor_calls.proofs.bytes.sixteen_from.Goals as goal
 

@@ -1,6 +1,5 @@
-use Rattle.std.proofs.Common.{ℕ, ◌-◌, ◌+◌, ◌∙◌, ◌++◌, List, length, take, drop, replicate, ap, sym, subst, arith}
+use Rattle.std.proofs.Common.{ℕ, ◌-◌, ◌∙◌, ◌++◌, List, take, drop, replicate, ap, sym, subst, arith}
 use Rattle.mm_memory.specs.Flat.{AreLive}
-use Rattle.supervisor_calls.specs.Accesses.{bytes_at}
 use Rattle.supervisor_calls.specs.Tables.{TablesState}
 use Rattle.supervisor_calls.proofs.WhereLemmas.{executed_where, memory_told}
 use Rattle.supervisor_calls.proofs.TableLemmas.{memory_bytes}

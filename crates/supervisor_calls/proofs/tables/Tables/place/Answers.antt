@@ -1,4 +1,4 @@
-use Rattle.std.proofs.Common.{◌≡◌, ◌∙◌, sym, arith}
+use Rattle.std.proofs.Common.{◌∙◌, sym, arith}
 use Rattle.supervisor_calls.proofs.TableLemmas.{are_of_device, are_stored, place_fits}
 use Rattle.supervisor_calls.proofs.tables.Tables.place.Goals as goal
 
