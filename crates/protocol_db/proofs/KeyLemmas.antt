@@ -20,7 +20,7 @@ IsKeyed entry = entry.0 ≡ key_of entry.1
 
 module _ (handle : ℕ) (guid : Guid) (test : Key → Bool) (same : (row : Row) → test (key_of row) ≡ is_at handle guid row) where
   -- a key passes the test of a look-up where its row is of the handle and the GUID
-  tested : (entry : Key × Row) → IsKeyed entry → test entry.0 ≡ is_at handle guid entry.1
+  pub tested : (entry : Key × Row) → IsKeyed entry → test entry.0 ≡ is_at handle guid entry.1
   tested entry keyed = ap test keyed ∙ same entry.1
 
   pub lookup-row_at : (entries : List (Key × Row)) → AreKeyed entries → lookup test entries ≡ row_at handle guid (values_of entries)

@@ -1,3 +1,4 @@
+pub mod CountLemmas
 pub mod DbLemmas
 pub mod KeyLemmas
 pub mod LawLemmas

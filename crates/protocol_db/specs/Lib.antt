@@ -1,3 +1,4 @@
+pub mod CountsInside
 pub mod KeysInside
 pub mod Laws
 pub mod ProtocolDb

@@ -2,9 +2,10 @@
 ghost use Rattle.std.specs.Prelude.{◌≡◌, ◌↔◌, ◌+◌, ◌-◌, ◌^◌, ◌<◌, ◌≤◌, ℕ, false, true, Some, None, [], length, slice_get, option_map, All};
 ghost use Rattle.std.specs.Prelude.{IsNone, IsSome, IsSomeAnd, IsTrue, IfOk, OnOk, OnErr};
 ghost use Rattle.std.specs.Bool.{IsFalse};
+ghost use Rattle.std.specs.List.{list_any};
 ghost use Rattle.std.specs.Result.{result_ok};
 ghost use Rattle.protocol_db.specs.ProtocolDb.{handle_for, is_at_limit, is_duplicate, is_unknown, next_after, with_row};
-ghost use Rattle.protocol_db.specs.Rows.{AreApart, first_of, has_handle, is_owned_by, owned_by, row_at, row_with, rows_of};
+ghost use Rattle.protocol_db.specs.Rows.{AreApart, first_of, has_handle, is_of_guid, is_owned_by, owned_by, row_at, row_with, rows_of};
 ghost use Rattle.protocol_db.specs.Rows.{without_owner, without_row};
 ghost use Rattle.protocol_db.specs.declared.database.InstallEnd.TheVariants.{NoMemory as OutOfMemory};
 
@@ -206,6 +207,13 @@ impl ProtocolDb {
     {
         let row = find_first(self.rows.as_slice(), guid)?;
         Some(row.interface)
+    }
+
+    /// Whether an interface is installed for a GUID. It costs the same however many rows there are.
+    pub fn has(&self, guid: Guid) -> bool
+        ensures { result ≡ list_any (is_of_guid guid) self.now.rows }
+    {
+        self.rows.has(guid)
     }
 
     /// Removes all interfaces of an image, and sets the handle that the next new one gets. The order of the others stays.

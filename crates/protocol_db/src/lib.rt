@@ -3,6 +3,7 @@
 //! what an interface points to, and takes memory only where one is installed.
 #![tactic(auto)]
 
+mod counts;
 mod database;
 pub mod laws;
 mod lookup;

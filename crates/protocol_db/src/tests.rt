@@ -20,6 +20,7 @@ enum Call {
     HandleProtocol(u64, Guid),
     LocateHandle(Guid, u64),
     LocateProtocol(Guid),
+    Has(Guid),
     Forget(u32),
     Freeze,
     Rows,
@@ -30,6 +31,7 @@ enum Call {
 #[derive(Clone, Copy, Debug, PartialEq, Eq)]
 enum Answer {
     Number(u64),
+    Truth(bool),
     Done,
     Nothing,
     Frozen,
@@ -93,6 +95,7 @@ fn ask(db: &mut ProtocolDb, call: Call) -> Answer {
         Call::HandleProtocol(handle, guid) => found(db.handle_protocol(handle, guid)),
         Call::LocateHandle(guid, index) => located(db.locate_handle(guid, index)),
         Call::LocateProtocol(guid) => located(db.locate_protocol(guid)),
+        Call::Has(guid) => Answer::Truth(db.has(guid)),
         Call::Forget(owner) => {
             forget(db, owner);
             Answer::Done
@@ -126,6 +129,8 @@ const FIRST_CALLS: &[(Call, Answer)] = &[
     (Call::LocateHandle(G1, 1), Answer::Nothing),
     (Call::Freeze, Answer::Done),
     (Call::Install(0, G2, 6, 0), Answer::Frozen),
+    (Call::Has(G1), Answer::Truth(true)),
+    (Call::Has(G2), Answer::Truth(false)),
     (Call::Rows, Answer::Number(1)),
 ];
 
@@ -219,6 +224,37 @@ const HANDLES_THAT_GO: &[(Call, Answer)] = &[
     (Call::LocateProtocol(G1), Answer::Number(7)),
 ];
 
+/// A GUID has an interface as long as one of its is left, whichever goes first, also where an image is forgotten.
+const GUIDS_THAT_GO: &[(Call, Answer)] = &[
+    (Call::Has(G1), Answer::Truth(false)),
+    (Call::Install(0, G1, 5, 1), Answer::Number(256)),
+    (Call::Has(G1), Answer::Truth(true)),
+    (Call::Has(G2), Answer::Truth(false)),
+    (Call::Install(0, G1, 6, 2), Answer::Number(257)),
+    (Call::Install(0, G1, 7, 2), Answer::Number(258)),
+    (Call::Install(256, G2, 8, 2), Answer::Number(256)),
+    (Call::Install(256, G2, 9, 1), Answer::Duplicate),
+    (Call::Uninstall(256, G1, 5, 2), Answer::NotMine),
+    (Call::Uninstall(256, G1, 5, 1), Answer::Done),
+    (Call::Has(G1), Answer::Truth(true)),
+    (Call::Uninstall(256, G1, 5, 1), Answer::NoProtocol),
+    (Call::Uninstall(257, G1, 6, 2), Answer::Done),
+    (Call::Has(G1), Answer::Truth(true)),
+    (Call::Uninstall(258, G1, 7, 2), Answer::Done),
+    (Call::Has(G1), Answer::Truth(false)),
+    (Call::Install(256, G1, 5, 2), Answer::Number(256)),
+    (Call::Install(0, G1, 6, 1), Answer::Number(259)),
+    (Call::Install(0, G3, 6, 2), Answer::Number(260)),
+    (Call::Forget(2), Answer::Done),
+    (Call::Has(G1), Answer::Truth(true)),
+    (Call::Has(G2), Answer::Truth(false)),
+    (Call::Has(G3), Answer::Truth(false)),
+    (Call::Freeze, Answer::Done),
+    (Call::Has(G1), Answer::Truth(true)),
+    (Call::Forget(1), Answer::Done),
+    (Call::Has(G1), Answer::Truth(false)),
+];
+
 /// Interfaces keep their order where one in the middle goes, and where an image's go.
 const KEPT_ORDER: &[(Call, Answer)] = &[
     (Call::Install(0, G1, 10, 1), Answer::Number(256)),
@@ -262,6 +298,7 @@ fn calls_one_after_another(rt: HostRuntime) -> Result<(), Fail> {
         REFUSED_INSTALLS,
         REFUSED_UNINSTALLS,
         HANDLES_THAT_GO,
+        GUIDS_THAT_GO,
         KEPT_ORDER,
     ] {
         let mut db = ProtocolDb::new(rt.alloc());
@@ -406,6 +443,10 @@ impl Plain {
         Answer::Nothing
     }
 
+    fn has(&self, guid: Guid) -> bool {
+        self.rows.iter().any(|row| row.guid == guid)
+    }
+
     fn answer(&mut self, call: Call) -> Answer {
         match call {
             Call::Install(handle, guid, interface, owner) => {
@@ -417,6 +458,7 @@ impl Plain {
             Call::HandleProtocol(handle, guid) => self.handle_protocol(handle, guid),
             Call::LocateHandle(guid, index) => self.locate_handle(guid, index),
             Call::LocateProtocol(guid) => self.locate_protocol(guid),
+            Call::Has(guid) => Answer::Truth(self.has(guid)),
             Call::Forget(owner) => {
                 self.rows.retain(|row| row.owner != owner);
                 Answer::Done
@@ -490,6 +532,17 @@ impl Draws {
     }
 }
 
+/// Whether both tell of the same GUIDs that there are interfaces for them.
+fn have_alike(db: &ProtocolDb, plain: &Plain) -> bool {
+    for guid in 0..5u8 {
+        let guid = Guid([guid; 16]);
+        if db.has(guid) != plain.has(guid) {
+            return false;
+        }
+    }
+    true
+}
+
 /// Whether both tell the same handles of each GUID, in the same order.
 fn orders_alike(db: &mut ProtocolDb, plain: &mut Plain) -> bool {
     for guid in 0..4u8 {
@@ -513,7 +566,7 @@ fn first_unlike(alloc: Global, seed: u64, steps: usize) -> Option<usize> {
     let mut draws = Draws(seed);
     for step in 0..steps {
         let call = draws.call(plain.rows.as_slice());
-        if ask(&mut db, call) != plain.answer(call) {
+        if ask(&mut db, call) != plain.answer(call) || !have_alike(&db, &plain) {
             return Some(step);
         }
         if step % 64 == 0 && !orders_alike(&mut db, &mut plain) {

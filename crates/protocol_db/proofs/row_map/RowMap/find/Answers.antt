@@ -7,5 +7,5 @@ pub returns : goal.returns
 returns c =
     c.copied.ensures
     ∙ c.get.ensures.value
-    ∙ lookup-row_at c.args.handle c.args.guid _ (λ row. refl) c.self.inside.rows.entries c.self.invariant
+    ∙ lookup-row_at c.args.handle c.args.guid _ (λ row. refl) c.self.inside.rows.entries c.self.invariant.keyed
     ∙ ap (row_at c.args.handle c.args.guid) c.self.view_is
