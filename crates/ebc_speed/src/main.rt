@@ -5,9 +5,21 @@
 #[cfg(test)]
 mod access_tests;
 #[cfg(test)]
+mod cell_tests;
+#[cfg(test)]
+mod denial_tests;
+#[cfg(test)]
 mod driver_tests;
+#[cfg(test)]
+mod interface_tests;
+#[cfg(test)]
+mod invocations;
 mod looping;
 mod making;
+#[cfg(test)]
+mod pool_tests;
+#[cfg(test)]
+mod two_images;
 
 use crate::looping::{LOOP, loop_over};
 use crate::making::domain_with;
