@@ -9,3 +9,4 @@ pub mod ListingsInside
 pub mod Services
 pub mod ServicesInside
 pub mod Tables
+pub mod Within
