@@ -3,7 +3,7 @@ use crate::invocations::Answer::{Refuses, Sets, Stops};
 use crate::invocations::Step::{Call, CallAt, Denied, Look, Put};
 use crate::invocations::{
     ACCESS_DENIED, HEADERS, INVALID_PARAMETER, Invocation, KEPT, NAME_DENIED, NOT_FOUND, OUT,
-    OUT_DENIED, POOL, SUCCESS, UNSUPPORTED, first_wrong,
+    OUT_DENIED, POOL, SUCCESS, UNSUPPORTED, first_untold, first_wrong,
 };
 use mm_base::Kind::{Io, Memory, Msr, Saved};
 use mm_base::Right;
@@ -246,5 +246,43 @@ const DENIALS_AFTER: &[Invocation] = &[(
 #[test]
 fn the_eighth_denial_stops(rt: HostRuntime) -> Result<(), Fail> {
     assert_eq!(rt; first_wrong(rt.alloc(), DENIALS, DENIALS_AFTER)?, None);
+    Ok(())
+}
+
+/// Of each of these but the last, step 1 or what is recorded isn't what is said.
+const WRONG: &[Invocation] = &[
+    (
+        "a status",
+        0,
+        &[
+            Call(1, [0, 0, 0, 0], NOT_FOUND),
+            Call(1, [0, 0, 0, 0], SUCCESS),
+        ],
+    ),
+    ("a number", 0, &[Put(OUT, 8, KEPT), Look(OUT, 8, 0)]),
+    (
+        "a denial in the records",
+        0,
+        &[Call(12, [1, 0x74, OUT, 0], ACCESS_DENIED)],
+    ),
+    (
+        "a cell write in the records",
+        0,
+        &[Call(13, [1, 0x70, 5, 0], SUCCESS)],
+    ),
+    (
+        "nothing: all is as said",
+        0,
+        &[Call(16, [0, 0, 0, 0], UNSUPPORTED), Put(OUT, 8, KEPT)],
+    ),
+];
+
+/// The tables of these tests tell what comes out otherwise, and don't pass whatever comes.
+#[test]
+fn tells_what_comes_out_otherwise(rt: HostRuntime) -> Result<(), Fail> {
+    assert_eq!(rt;
+        first_untold(rt.alloc(), WRONG)?,
+        Some("nothing: all is as said")
+    );
     Ok(())
 }

@@ -1,5 +1,5 @@
-//! What the tables of invocations are made of. All invocations of a table run one after another over the same tables of a core. Each says by
-//! its steps what it is answered, and so what its records are.
+//! What the tables of invocations are made of. All invocations of a table run one after another over the same tables of a core. Each
+//! says by its steps what it is answered, and so what its records are.
 use crate::two_images::two_images;
 use mm_base::{Bus, CellWrite, Denial, Ended, Kind, NoMemory, Records, Right, Saved, Served, Why};
 use mm_memory::PlainFrames;
@@ -328,4 +328,24 @@ pub fn first_wrong(
     tables.lock();
     let (_, wrong) = run_all(alloc, tables, after)?;
     Ok(wrong)
+}
+
+/// What the first of these invocations shows in which it isn't number 1 that comes out otherwise first.
+pub fn first_untold(
+    alloc: Global,
+    invocations: &[Invocation],
+) -> Result<Option<&'static str>, NoMemory> {
+    let Some(tables) = two_images(alloc, b"")? else {
+        return Ok(Some("no tables"));
+    };
+    let mut tables = tables;
+    for invocation in invocations {
+        let (shown, image, steps) = *invocation;
+        let (left, wrong) = run(alloc, tables, image, steps)?;
+        tables = left;
+        if wrong != Some(1) {
+            return Ok(Some(shown));
+        }
+    }
+    Ok(None)
 }

@@ -11,6 +11,8 @@ mod denial_tests;
 #[cfg(test)]
 mod driver_tests;
 #[cfg(test)]
+mod edge_tests;
+#[cfg(test)]
 mod interface_tests;
 #[cfg(test)]
 mod invocations;
@@ -18,6 +20,8 @@ mod looping;
 mod making;
 #[cfg(test)]
 mod pool_tests;
+#[cfg(test)]
+mod service_tests;
 #[cfg(test)]
 mod two_images;
 

@@ -1,7 +1,7 @@
-//! Tables with images of one page each: 100 bytes of headers (hexadecimal, as all addresses here), a section that may be read and executed, and
-//! nothing up to the page's end; then the stack of four pages, the communicate page, the service page, the pool of 16 pages, and the reserve of 16.
-//! The region of the first image begins at 80000000: its stack at 80001000, its communicate page at 80005000, its service page at 80006000, its pool
-//! at 80007000, and its reserve at 80017000, which ends at 80027000.
+//! Tables with images of one page each: 100 bytes of headers (hexadecimal, as all addresses here), a section that may be read and
+//! executed, and nothing up to the page's end; then the stack of four pages, the communicate page, the service page, the pool of 16
+//! pages, and the reserve of 16. The region of the first image begins at 80000000: its stack at 80001000, its communicate page at
+//! 80005000, its service page at 80006000, its pool at 80007000, and its reserve at 80017000, which ends at 80027000.
 ghost use Rattle.std.specs.Prelude.{◌≡◌, ◌+◌, ◌≤◌, true, replicate, IfOk, OnOk};
 ghost use Rattle.ebc_speed.specs.TestTables.{IsWholeMemory, IsOneSection, HaveAllPages, HasAllPages};
 

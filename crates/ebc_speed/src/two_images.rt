@@ -1,6 +1,6 @@
 //! Tables with two images, each with a section of 700 bytes (hexadecimal, as all addresses here). The region of the first begins where
-//! management-mode memory does, at 80000000, and that of the second, at 81FD9000, ends where it ends, at 82000000: its stack begins at 81FDA000,
-//! its communicate page at 81FDE000, its service page at 81FDF000, its pool at 81FE0000, and its reserve at 81FF0000.
+//! management-mode memory does, at 80000000, and that of the second, at 81FD9000, ends where it ends, at 82000000: its stack begins at
+//! 81FDA000, its communicate page at 81FDE000, its service page at 81FDF000, its pool at 81FE0000, and its reserve at 81FF0000.
 use crate::making::{admit_at, memory_with, tables_over};
 use mm_base::{Guid, NoMemory};
 use mm_memory::PlainFrames;
