@@ -1,5 +1,5 @@
 -- Memory outside a region stays where what is written lies in the region, and so does all of it where nothing is.
-use Rattle.std.proofs.Common.{◌≡◌, ◌⊎◌, inl, inr, ℕ, ◌+◌, ◌*◌, ◌-◌, ◌≤◌, true, false, List, ◌++◌, length, take, drop, Option, Some, refl, sym, ap, ◌∙◌, subst, arith}
+use Rattle.std.proofs.Common.{◌≡◌, ◌⊎◌, inl, inr, ℕ, ◌+◌, ◌*◌, ◌-◌, ◌≤◌, Bool, true, false, List, ◌++◌, length, take, drop, Option, Some, refl, sym, ap, ◌∙◌, subst, arith}
 use Rattle.std.specs.List.{slice_get}
 use Rattle.std.specs.Option.{option_map_or}
 use Rattle.std.proofs.lemmas.Bool.Decides.{nat_tests}
@@ -17,6 +17,7 @@ use Rattle.mm_base.specs.Range.{encloses}
 use Rattle.mm_base.specs.Regions.{region_of}
 use Rattle.mm_base.specs.declared.access.Kind.TheVariants as kinds
 use Rattle.mm_base.specs.declared.access.Right.{Right}
+use Rattle.mm_base.specs.declared.access.Verdict.{Verdict}
 use Rattle.mm_base.specs.declared.range.Range.{Range}
 use Rattle.mm_base.specs.declared.region.Region.{Region}
 use Rattle.mm_memory.proofs.PageLemmas.{length-overwritten, length-zeros, overwritten-nothing}
@@ -72,20 +73,26 @@ module _ (domain : DomainState) (placed : IsSite domain.tables.site) (at n trapp
   abbrev pub Lies : Type 0
   Lies = LiesIn (region_in domain) at n ⊎ InDevice at n
 
-  in_region : (image : PlacedImage) → slice_get domain.tables.site.images domain.image ≡ Some image → is_own right (units_from at n) image ≡ true
-      → LiesIn (region_in domain) at n
+  in_region : (image : PlacedImage) → slice_get domain.tables.site.images domain.image ≡ Some image
+      → is_own right (units_from at n) image ≡ true → LiesIn (region_in domain) at n
   in_region image is own =
       let same : region_in domain ≡ image.region =
       ap (λ (found : Option PlacedImage). option_map_or (λ placed. placed.region) found (record { base = 0; pages = 0 })) is in
       let P : Region → Type 0 = λ region. LiesIn region at n in
       subst P (sym same) (home_lies image at n right (of_image IsPlaced domain.tables.site.images placed domain.image image is) own)
 
+  abbrev homes : Bool
+  homes = is_home_at domain.tables.site.images domain.image (units_from at n) right
+
+  abbrev ruled : Verdict
+  ruled =
+      verdict_by_rules domain.tables.site.policy.rules 0 (name_at domain.tables.site.images domain.image) kinds.Memory (units_from at n) right
+
   pub passed_lies : passes (decided domain.tables.site domain.image kinds.Memory at n right trapped) ≡ true → Lies
   unfolding decided verdict_on
   passed_lies pass = by_case (by_place _ _ _ pass)
     where
-      by_case : ((place_of_bytes (units_from at n) ≡ Mmram) × (is_home_at domain.tables.site.images domain.image (units_from at n) right ≡ true))
-          ⊎ ((place_of_bytes (units_from at n) ≡ Cells) × (passes (verdict_by_rules domain.tables.site.policy.rules 0 (name_at domain.tables.site.images domain.image) kinds.Memory (units_from at n) right) ≡ true))
+      by_case : ((place_of_bytes (units_from at n) ≡ Mmram) × (homes ≡ true)) ⊎ ((place_of_bytes (units_from at n) ≡ Cells) × (passes ruled ≡ true))
           → Lies
       by_case (inl home) =
           inl (at_image (LiesIn (region_in domain) at n) domain.tables.site.images domain.image at n right
@@ -97,14 +104,15 @@ pub record SameOutside (region : Region) (old new : List ℕ) : Type 0 where
   pub bytes : outside region new ≡ outside region old
   pub size : length new ≡ length old
 
-nothing_written : (region : Region) (memory piece : List ℕ) (at : ℕ) → length piece ≡ 0 → SameOutside region memory (overwritten memory at piece)
+nothing_written : (region : Region) (memory piece : List ℕ) (at : ℕ) → length piece ≡ 0
+    → SameOutside region memory (overwritten memory at piece)
 nothing_written region memory piece at none =
     let same : overwritten memory at piece ≡ memory =
     ap (overwritten memory at) (nil_from_length piece none) ∙ overwritten-nothing memory at in
     record { bytes = ap (outside region) same; size = ap length same }
 
-pub written_outside : (region : Region) (memory piece : List ℕ) (at n : ℕ) → length memory ≡ 33554432 → length piece ≤ n → is_device_byte at ≡ false
-    → LiesIn region at n ⊎ InDevice at n → SameOutside region memory (overwritten memory (at - 0x80000000) piece)
+pub written_outside : (region : Region) (memory piece : List ℕ) (at n : ℕ) → length memory ≡ 33554432 → length piece ≤ n
+    → is_device_byte at ≡ false → LiesIn region at n ⊎ InDevice at n → SameOutside region memory (overwritten memory (at - 0x80000000) piece)
 written_outside region memory piece at n whole few other (inl inside) =
     let low : region.base ≤ at = inside.low in
     let high : at + n ≤ region.base + 4096 * (region.pages + 38) = inside.high in

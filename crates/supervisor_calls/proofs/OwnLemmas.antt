@@ -1,5 +1,5 @@
 -- Handlers and interfaces that an image adds or removes are its own: those of the others stay.
-use Rattle.std.proofs.Common.{◌≡◌, ℕ, ◌≤◌, ◌==◌, ◌&&◌, Bool, true, false, cond, not, List, [], ◌∷◌, ◌++◌, Option, None, Some, refl, sym, ap, ◌∙◌, arith, append-nil}
+use Rattle.std.proofs.Common.{◌≡◌, ℕ, ◌==◌, ◌&&◌, Bool, true, false, cond, not, List, [], ◌∷◌, ◌++◌, Option, None, Some, refl, sym, ap, ◌∙◌, arith, append-nil}
 use Rattle.std.proofs.lemmas.Bool.{eq-eqb}
 use Rattle.std.proofs.lemmas.List.Elements.{filter-append}
 use Rattle.mm_base.specs.declared.guid.Guid.{Guid}
@@ -71,7 +71,8 @@ module _ (image handle : ℕ) (guid : Guid) (interface : ℕ) (row : Row) (mine 
             found_first (first.interface == interface) first row (row_with handle guid interface rows)
             (row_with-later handle guid interface rows none) here in
             ap (without_owner image) (without_row-later handle guid rows none)
-            ∙ sym (ap (λ b. cond (not b) (first ∷ without_owner image rows) (without_owner image rows)) (ap (is_owned_by image) same ∙ mine))
+            ∙ sym (ap (λ b. cond (not b) (first ∷ without_owner image rows) (without_owner image rows))
+            (ap (is_owned_by image) same ∙ mine))
         | false ↦ λ _ later.
             ap (λ rest. cond (not (is_owned_by image first)) (first ∷ rest) rest)
             (own_removed rows (AllPairs-tail Differ first rows apart) later)

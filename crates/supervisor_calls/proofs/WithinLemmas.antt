@@ -1,8 +1,9 @@
 -- Each thing that a service may do stays within what is the image's own.
-use Rattle.std.proofs.Common.{◌≡◌, ℕ, ◌-◌, ◌≤◌, Bool, true, false, if◌then◌else◌, nat_lt, List, [], ◌∷◌, ◌++◌, length, set, refl, ap, ◌∙◌, subst, arith}
+use Rattle.std.proofs.Common.{◌≡◌, ℕ, ◌-◌, ◌≤◌, Bool, true, false, if◌then◌else◌, nat_lt, List, [], ◌∷◌, ◌++◌, length, set, Option, refl, ap, ◌∙◌, subst, arith}
 use Rattle.std.specs.List.{slice_get}
 use Rattle.std.specs.Option.{option_map_or}
 use Rattle.std.proofs.lemmas.List.{length-set, length-take, set-set}
+use Rattle.image_table.specs.declared.placed_image.PlacedImage.{PlacedImage}
 use Rattle.mm_base.specs.Cells.{is_device_byte}
 use Rattle.mm_base.specs.Frames.{zeros}
 use Rattle.mm_base.specs.Numbers.{bytes_of_word, low_bytes, overwritten}
@@ -21,10 +22,13 @@ use Rattle.mmi_registry.specs.Registry.{RegistryState}
 use Rattle.pool_tree.specs.Pool.{Block}
 use Rattle.protocol_db.specs.ProtocolDb.{DbState}
 use Rattle.secure_policy.specs.Laws.{passes}
-use Rattle.supervisor_calls.specs.Accesses.{Acting, answered, changed, denial_of, bytes_at, number_at, with_bytes, with_cell_write, with_number, with_quota}
-use Rattle.supervisor_calls.specs.Deeds.{after_clearing, after_write, bytes_cleared, guid_seen, let_through, number_seen, number_written, out_asked}
+use Rattle.supervisor_calls.specs.Accesses.{Acting, answered, changed, denial_of, with_quota}
+use Rattle.supervisor_calls.specs.Accesses.{bytes_at, number_at, with_bytes, with_cell_write, with_number}
+use Rattle.supervisor_calls.specs.Deeds.{bytes_cleared, guid_seen, number_seen, number_written, out_asked}
+use Rattle.supervisor_calls.specs.Deeds.{after_clearing, after_write, let_through}
 use Rattle.supervisor_calls.specs.Deeds.{with_denied, with_handlers, with_interfaces, with_pool, with_reserve}
-use Rattle.supervisor_calls.specs.Domains.{DomainState, acted, acting_of, fetched, read_at, seen_registers, trapped_of, verdict_in, with_acting, write_verdict, written_at}
+use Rattle.supervisor_calls.specs.Domains.{DomainState, acted, acting_of, fetched, read_at, with_acting, written_at}
+use Rattle.supervisor_calls.specs.Domains.{seen_registers, trapped_of, verdict_in, write_verdict}
 use Rattle.supervisor_calls.specs.Services.{region_in}
 use Rattle.supervisor_calls.specs.Tables.{Live, Site}
 use Rattle.supervisor_calls.specs.Within.{IsOrderly, StaysWithin, outside}
@@ -58,23 +62,36 @@ same_memory : (region : Region) (memory : List ℕ) → SameOutside region memor
 same_memory region memory = record { bytes = refl; size = refl }
 
 same_live : (image : ℕ) (region : Region) (live : Live) → SameLive image region live live
-same_live image region live = record { memory = same_memory region live.memory; pools = refl; pool_count = refl; reserves = refl; reserve_count = refl }
+same_live image region live = record {
+  memory = same_memory region live.memory;
+  pools = refl;
+  pool_count = refl;
+  reserves = refl;
+  reserve_count = refl;
+}
 
 -- a write that has its quota passes
-quota_passes : (kind : Kind) (at : ℕ) (records : RecordsState) (verdict : Verdict) → passes (with_quota kind at records verdict) ≡ true → passes verdict ≡ true
+quota_passes : (kind : Kind) (at : ℕ) (records : RecordsState) (verdict : Verdict)
+    → passes (with_quota kind at records verdict) ≡ true → passes verdict ≡ true
 quota_passes kind at records (Pass why) pass = refl
 quota_passes kind at records (Deny why) pass = pass
 
 module _ (before after : DomainState) (within : StaysWithin before after) where
+  abbrev pub Stays : DomainState → Type 0
+  Stays = StaysWithin before
+
   region_is : region_in after ≡ region_in before
   region_is =
-      ap (λ (site : Site). option_map_or (λ image. image.region) (slice_get site.images after.image) (record { base = 0; pages = 0 })) within.site
-      ∙ ap (λ (image : ℕ). option_map_or (λ placed. placed.region) (slice_get before.tables.site.images image) (record { base = 0; pages = 0 })) within.image
+      ap (λ (site : Site). found (slice_get site.images after.image)) within.site
+      ∙ ap (λ (image : ℕ). found (slice_get before.tables.site.images image)) within.image
+    where
+      found : Option PlacedImage → Region
+      found image = option_map_or (λ placed. placed.region) image (record { base = 0; pages = 0 })
 
   -- ---- what may change
 
   pub live_within : (live : Live) (records : RecordsState) → SameLive after.image (region_in after) after.tables.live live
-      → StaysWithin before (acted after (record { live = live; records = records }))
+      → Stays (acted after (record { live = live; records = records }))
   live_within live records same =
       let orderly = within.orderly in
       let Memory : Region → Type 0 = λ region. outside region live.memory ≡ outside region after.tables.live.memory in
@@ -101,10 +118,10 @@ module _ (before after : DomainState) (within : StaysWithin before after) where
         };
       }
 
-  pub records_within : (records : RecordsState) → StaysWithin before (acted after (record { live = after.tables.live; records = records }))
+  pub records_within : (records : RecordsState) → Stays (acted after (record { live = after.tables.live; records = records }))
   records_within records = live_within after.tables.live records (same_live after.image (region_in after) after.tables.live)
 
-  pub pool_within : (pool : List Block) → StaysWithin before (with_pool pool after)
+  pub pool_within : (pool : List Block) → Stays (with_pool pool after)
   pool_within pool =
       let live : Live = after.tables.live in
       live_within (record live { pools = set live.pools after.image pool }) after.records
@@ -116,7 +133,7 @@ module _ (before after : DomainState) (within : StaysWithin before after) where
         reserve_count = refl;
       })
 
-  pub reserve_within : (reserve : List Bool) → StaysWithin before (with_reserve reserve after)
+  pub reserve_within : (reserve : List Bool) → Stays (with_reserve reserve after)
   reserve_within reserve =
       let live : Live = after.tables.live in
       live_within (record live { reserves = set live.reserves after.image reserve }) after.records
@@ -132,7 +149,7 @@ module _ (before after : DomainState) (within : StaysWithin before after) where
     abbrev registry_put : DomainState
     registry_put = record after { tables = record after.tables { registry = registry } }
 
-    registry_within : StaysWithin before registry_put
+    registry_within : Stays registry_put
     registry_within =
         let orderly = within.orderly in
         record {
@@ -160,9 +177,9 @@ module _ (before after : DomainState) (within : StaysWithin before after) where
           };
         }
 
-    pub handlers_within : StaysWithin before (with_handlers registry after)
+    pub handlers_within : Stays (with_handlers registry after)
     handlers_within =
-        elim after.tables.locked as (λ b. StaysWithin before (if b then after else registry_put)) [
+        elim after.tables.locked as (λ b. Stays (if b then after else registry_put)) [
           | true ↦ within
           | false ↦ registry_within
         ]
@@ -171,7 +188,7 @@ module _ (before after : DomainState) (within : StaysWithin before after) where
     abbrev protocols_put : DomainState
     protocols_put = record after { tables = record after.tables { protocols = protocols } }
 
-    protocols_within : StaysWithin before protocols_put
+    protocols_within : Stays protocols_put
     protocols_within =
         let orderly = within.orderly in
         record {
@@ -199,18 +216,18 @@ module _ (before after : DomainState) (within : StaysWithin before after) where
           };
         }
 
-    pub interfaces_within : StaysWithin before (with_interfaces protocols after)
+    pub interfaces_within : Stays (with_interfaces protocols after)
     interfaces_within =
-        elim after.tables.locked as (λ b. StaysWithin before (if b then after else protocols_put)) [
+        elim after.tables.locked as (λ b. Stays (if b then after else protocols_put)) [
           | true ↦ within
           | false ↦ protocols_within
         ]
 
   -- ---- denials
 
-  pub denied_within : (denial : Denial) → StaysWithin before (with_denied denial after)
+  pub denied_within : (denial : Denial) → Stays (with_denied denial after)
   denied_within denial =
-      elim (nat_lt (length after.records.denials) 8) as (λ b. StaysWithin before (acted after (noted b))) [
+      elim (nat_lt (length after.records.denials) 8) as (λ b. Stays (acted after (noted b))) [
         | true ↦ records_within (noted true).records
         | false ↦ within
       ]
@@ -222,7 +239,7 @@ module _ (before after : DomainState) (within : StaysWithin before after) where
           else acting_of after
 
   pub let_through_within : {A : Type 0} (verdict : Verdict) (denial : Why → Denial) (value : A) (other : DomainState)
-      → (passes verdict ≡ true → StaysWithin before other) → StaysWithin before (let_through verdict denial value other after).1
+      → (passes verdict ≡ true → Stays other) → Stays (let_through verdict denial value other after).1
   let_through_within (Pass why) denial value other passed = passed refl
   let_through_within (Deny why) denial value other passed = denied_within (denial why)
 
@@ -276,12 +293,13 @@ module _ (before after : DomainState) (within : StaysWithin before after) where
   }
   number_within kinds.Saved at n value pass = same_live after.image (region_in after) after.tables.live
 
-  write_within : (kind : Kind) (at n value : ℕ) → passes (write_verdict after kind at n) ≡ true → StaysWithin before (after_write kind at n value after)
+  write_within : (kind : Kind) (at n value : ℕ) → passes (write_verdict after kind at n) ≡ true
+      → Stays (after_write kind at n value after)
   write_within kind at n value pass =
       live_within (with_number kind at n value after.tables.live) (with_cell_write kind at n value after.records)
       (number_within kind at n value (quota_passes kind at after.records (verdict_in after kind at n Write) pass))
 
-  clearing_within : (at n : ℕ) → passes (write_verdict after kinds.Memory at n) ≡ true → StaysWithin before (after_clearing at n after)
+  clearing_within : (at n : ℕ) → passes (write_verdict after kinds.Memory at n) ≡ true → Stays (after_clearing at n after)
   clearing_within at n pass =
       live_within (with_bytes at (zeros n) after.tables.live) after.records
       (piece_within at n (zeros n) (omega (arith, length-zeros n))
@@ -289,48 +307,50 @@ module _ (before after : DomainState) (within : StaysWithin before after) where
 
   -- ---- each part of a service
 
-  pub number_seen_within : (kind : Kind) (at n : ℕ) → StaysWithin before (number_seen kind at n after).1
+  pub number_seen_within : (kind : Kind) (at n : ℕ) → Stays (number_seen kind at n after).1
   number_seen_within kind at n =
-      let_through_within (verdict_in after kind at n Read) (denial_of kind Read at n) (number_at after.tables.live (seen_registers after) kind at n)
-      after (λ _. within)
+      let_through_within (verdict_in after kind at n Read) (denial_of kind Read at n)
+      (number_at after.tables.live (seen_registers after) kind at n) after (λ _. within)
 
-  pub guid_seen_within : (pointer : ℕ) → StaysWithin before (guid_seen pointer after).1
+  pub guid_seen_within : (pointer : ℕ) → Stays (guid_seen pointer after).1
   guid_seen_within pointer =
       let_through_within {A = Guid} (verdict_in after kinds.Memory pointer 16 Read) (denial_of kinds.Memory Read pointer 16)
       (record { 0 = bytes_at after.tables.live pointer 16 }) after (λ _. within)
 
-  pub out_asked_within : (pointer : ℕ) → StaysWithin before (out_asked pointer after).1
+  pub out_asked_within : (pointer : ℕ) → Stays (out_asked pointer after).1
   out_asked_within pointer =
-      let_through_within {A = Unit {0}} (write_verdict after kinds.Memory pointer 8) (denial_of kinds.Memory Write pointer 8) tt after (λ _. within)
+      let_through_within {A = Unit {0}} (write_verdict after kinds.Memory pointer 8) (denial_of kinds.Memory Write pointer 8) tt
+      after (λ _. within)
 
-  pub number_written_within : (kind : Kind) (at n value : ℕ) → StaysWithin before (number_written kind at n value after).1
+  pub number_written_within : (kind : Kind) (at n value : ℕ) → Stays (number_written kind at n value after).1
   number_written_within kind at n value =
       let_through_within {A = Unit {0}} (write_verdict after kind at n) (denial_of kind Write at n) tt (after_write kind at n value after)
       (write_within kind at n value)
 
-  pub bytes_cleared_within : (at n : ℕ) → StaysWithin before (bytes_cleared at n after).1
+  pub bytes_cleared_within : (at n : ℕ) → Stays (bytes_cleared at n after).1
   bytes_cleared_within at n =
-      let_through_within {A = Unit {0}} (write_verdict after kinds.Memory at n) (denial_of kinds.Memory Write at n) tt (after_clearing at n after)
-      (clearing_within at n)
+      let_through_within {A = Unit {0}} (write_verdict after kinds.Memory at n) (denial_of kinds.Memory Write at n) tt
+      (after_clearing at n after) (clearing_within at n)
 
   -- ---- the accesses of a bus
 
   answered_within : {A : Type 0} (verdict : Verdict) (denial : Why → Denial) (value : A)
-      → StaysWithin before (with_acting after (answered verdict denial value (acting_of after))).1
+      → Stays (with_acting after (answered verdict denial value (acting_of after))).1
   answered_within (Pass why) denial value = within
   answered_within (Deny why) denial value = denied_within (denial why)
 
-  pub fetched_within : (at n : ℕ) → StaysWithin before (fetched after at n).1
+  pub fetched_within : (at n : ℕ) → Stays (fetched after at n).1
   fetched_within at n =
       answered_within (verdict_in after kinds.Memory at n Execute) (denial_of kinds.Memory Execute at n) _
 
-  pub read_within : (at n : ℕ) → StaysWithin before (read_at after at n).1
+  pub read_within : (at n : ℕ) → Stays (read_at after at n).1
   read_within at n = answered_within (verdict_in after kinds.Memory at n Read) (denial_of kinds.Memory Read at n) _
 
-  changed_within : (verdict : Verdict) (at n value : ℕ) → (passes verdict ≡ true → StaysWithin before (after_write kinds.Memory at n value after))
-      → StaysWithin before (with_acting after (changed verdict kinds.Memory at n value (acting_of after))).1
+  changed_within : (verdict : Verdict) (at n value : ℕ)
+      → (passes verdict ≡ true → Stays (after_write kinds.Memory at n value after))
+      → Stays (with_acting after (changed verdict kinds.Memory at n value (acting_of after))).1
   changed_within (Pass why) at n value passed = passed refl
   changed_within (Deny why) at n value passed = denied_within (denial_of kinds.Memory Write at n why)
 
-  pub written_within : (at n value : ℕ) → StaysWithin before (written_at after at n value).1
+  pub written_within : (at n value : ℕ) → Stays (written_at after at n value).1
   written_within at n value = changed_within (write_verdict after kinds.Memory at n) at n value (write_within kinds.Memory at n value)

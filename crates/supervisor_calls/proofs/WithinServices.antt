@@ -43,13 +43,16 @@ use Rattle.supervisor_calls.proofs.WithinLemmas.{bytes_cleared_within, guid_seen
 use Rattle.supervisor_calls.proofs.WithinLemmas.{handlers_within, interfaces_within, pool_within, reserve_within}
 
 module _ (before : DomainState) where
+  abbrev Stays : DomainState → Type 0
+  Stays = StaysWithin before
+
   -- making a deed stays within
   abbrev Keeps : Deed → Type 0
-  Keeps deed = (after : DomainState) → StaysWithin before after → StaysWithin before (done deed after).1
+  Keeps deed = (after : DomainState) → Stays after → Stays (done deed after).1
 
-  going : {A : Type 0} (told : Result A Served × DomainState) (next : A → DomainState → Served × DomainState) → StaysWithin before told.1
-      → ((value : A) (after : DomainState) → StaysWithin before after → StaysWithin before (next value after).1)
-      → StaysWithin before (going_on told next).1
+  going : {A : Type 0} (told : Result A Served × DomainState) (next : A → DomainState → Served × DomainState) → Stays told.1
+      → ((value : A) (after : DomainState) → Stays after → Stays (next value after).1)
+      → Stays (going_on told next).1
   going (Ok value, after) next within each = each value after within
   going (Err served, after) next within each = within
 
@@ -72,7 +75,8 @@ module _ (before : DomainState) where
 
   writes : (kind : Kind) (at n value : ℕ) (next : Deed) → Keeps next → Keeps (Writes kind at n value next)
   writes kind at n value next each after within =
-      going (number_written kind at n value after) (λ value domain. done next domain) (number_written_within before after within kind at n value) (λ value. each)
+      going (number_written kind at n value after) (λ value domain. done next domain)
+      (number_written_within before after within kind at n value) (λ value. each)
 
   clears : (at n : ℕ) (next : Deed) → Keeps next → Keeps (Clears at n next)
   clears at n next each after within =
@@ -109,27 +113,30 @@ module _ (before : DomainState) where
   block_given_keeps : (region : Region) (out : ℕ) (pool : List Block) (found : Option Block) → Keeps (block_given region out pool found)
   block_given_keeps region out pool None = returns out_of_resources
   block_given_keeps region out pool (Some block) =
-      sets_pool (with_block pool block.place block.size) (gives out ((pool_of region).base + block.place)) (gives_keeps out ((pool_of region).base + block.place))
+      let address : ℕ = (pool_of region).base + block.place in
+      sets_pool (with_block pool block.place block.size) (gives out address) (gives_keeps out address)
 
   pool_allocation_keeps : (region : Region) (size out : ℕ) → Keeps (pool_allocation region size out)
   pool_allocation_keeps region size out =
-      either (size == 0) (Returns invalid_parameter) (Asks out (SeesPool (λ pool. block_given region out pool (next_block pool size))))
-      (returns invalid_parameter)
-      (asks out (SeesPool (λ pool. block_given region out pool (next_block pool size)))
-      (sees_pool (λ pool. block_given region out pool (next_block pool size)) (λ pool. block_given_keeps region out pool (next_block pool size))))
+      let next : List Block → Deed = λ pool. block_given region out pool (next_block pool size) in
+      either (size == 0) (Returns invalid_parameter) (Asks out (SeesPool next)) (returns invalid_parameter)
+      (asks out (SeesPool next) (sees_pool next (λ pool. block_given_keeps region out pool (next_block pool size))))
 
   pool_release_keeps : (region : Region) (address : ℕ) → Keeps (pool_release region address)
   pool_release_keeps region address =
       let base : ℕ = (pool_of region).base in
-      let next : List Block → Deed = λ pool. if is_live_at base pool address then SetsPool (without_block pool (address - base)) (Returns success) else Returns not_found in
+      let freed : List Block → Deed = λ pool. SetsPool (without_block pool (address - base)) (Returns success) in
+      let next : List Block → Deed = λ pool. if is_live_at base pool address then freed pool else Returns not_found in
       sees_pool next (λ pool.
-      either (is_live_at base pool address) (SetsPool (without_block pool (address - base)) (Returns success)) (Returns not_found)
+      either (is_live_at base pool address) (freed pool) (Returns not_found)
       (sets_pool (without_block pool (address - base)) (Returns success) (returns success)) (returns not_found))
 
-  run_given_keeps : (region : Region) (pages out : ℕ) (reserve : List Bool) (found : Option ℕ) → Keeps (run_given region pages out reserve found)
+  run_given_keeps : (region : Region) (pages out : ℕ) (reserve : List Bool) (found : Option ℕ)
+      → Keeps (run_given region pages out reserve found)
   run_given_keeps region pages out reserve None = returns out_of_resources
   run_given_keeps region pages out reserve (Some start) =
-      sets_reserve (with_run true start pages reserve) (gives out ((reserve_of region).base + 4096 * start)) (gives_keeps out ((reserve_of region).base + 4096 * start))
+      let address : ℕ = (reserve_of region).base + 4096 * start in
+      sets_reserve (with_run true start pages reserve) (gives out address) (gives_keeps out address)
 
   page_allocation_keeps : (region : Region) (pages out : ℕ) → Keeps (page_allocation region pages out)
   page_allocation_keeps region pages out =
@@ -146,7 +153,8 @@ module _ (before : DomainState) where
       either ((pages == 0) || not (address % 4096 == 0)) (Returns invalid_parameter) (SeesReserve next) (returns invalid_parameter)
       (sees_reserve next (λ reserve.
       either (are_taken_at base reserve address pages) (Clears address (4096 * pages) (freed reserve)) (Returns not_found)
-      (clears address (4096 * pages) (freed reserve) (sets_reserve (with_run false (page_at base address) pages reserve) (Returns success) (returns success)))
+      (clears address (4096 * pages) (freed reserve)
+      (sets_reserve (with_run false (page_at base address) pages reserve) (Returns success) (returns success)))
       (returns not_found)))
 
   -- ---- interfaces
@@ -168,27 +176,32 @@ module _ (before : DomainState) where
 
   handle_of_index_keeps : (pointer index out : ℕ) → Keeps (handle_of_index pointer index out)
   handle_of_index_keeps pointer index out =
-      let found : Guid → DbState → Option ℕ = λ guid protocols. option_map (λ row. row.handle) (slice_get (rows_of guid protocols.rows) index) in
+      let found : Guid → DbState → Option ℕ =
+      λ guid protocols. option_map (λ row. row.handle) (slice_get (rows_of guid protocols.rows) index) in
       let next : Guid → DbState → Deed = λ guid protocols. gives_found out not_found (found guid protocols) in
-      named_and_asked pointer out next (λ guid. sees_interfaces (next guid) (λ protocols. gives_found_keeps out not_found (found guid protocols)))
+      named_and_asked pointer out next (λ guid.
+      sees_interfaces (next guid) (λ protocols. gives_found_keeps out not_found (found guid protocols)))
 
   first_interface_keeps : (pointer out : ℕ) → Keeps (first_interface pointer out)
   first_interface_keeps pointer out =
       let found : Guid → DbState → Option ℕ = λ guid protocols. option_map (λ row. row.interface) (first_of guid protocols.rows) in
       let next : Guid → DbState → Deed = λ guid protocols. gives_found out not_found (found guid protocols) in
-      named_and_asked pointer out next (λ guid. sees_interfaces (next guid) (λ protocols. gives_found_keeps out not_found (found guid protocols)))
+      named_and_asked pointer out next (λ guid.
+      sees_interfaces (next guid) (λ protocols. gives_found_keeps out not_found (found guid protocols)))
 
-  sets_interfaces : (protocols : DbState) (next : Deed) → Keeps next → (after : DomainState) → StaysWithin before after
-      → SameInterfaces before.image after.tables.protocols protocols → StaysWithin before (done (SetsInterfaces protocols next) after).1
-  sets_interfaces protocols next each after within same = each (with_interfaces protocols after) (interfaces_within before after within protocols same)
+  sets_interfaces : (protocols : DbState) (next : Deed) → Keeps next → (after : DomainState) → Stays after
+      → SameInterfaces before.image after.tables.protocols protocols → Stays (done (SetsInterfaces protocols next) after).1
+  sets_interfaces protocols next each after within same =
+      each (with_interfaces protocols after) (interfaces_within before after within protocols same)
 
-  module _ (after : DomainState) (within : StaysWithin before after) where
+  module _ (after : DomainState) (within : Stays after) where
     abbrev protocols : DbState
     protocols = after.tables.protocols
 
-    row_installed : (handle : ℕ) (guid : Guid) (interface out : ℕ) (unknown duplicate full : Bool) → is_unknown handle protocols.rows ≡ unknown
+    row_installed : (handle : ℕ) (guid : Guid) (interface out : ℕ) (unknown duplicate full : Bool)
+        → is_unknown handle protocols.rows ≡ unknown
         → is_duplicate handle guid protocols.rows ≡ duplicate → db.is_at_limit handle before.image protocols ≡ full
-        → StaysWithin before (done (
+        → Stays (done (
         if unknown || duplicate then Returns invalid_parameter
         else if full then Returns out_of_resources
         else SetsInterfaces (with_row handle guid interface before.image protocols) (gives out (handle_for handle protocols.next))
@@ -202,16 +215,19 @@ module _ (before : DomainState) where
         (own.installed before.image protocols within.orderly.installed handle guid interface known single unused)
 
     row_removed : (handle : ℕ) (guid : Guid) (interface : ℕ) (found : Option Row) → row_with handle guid interface protocols.rows ≡ found
-        → StaysWithin before (done (interface_removed before.image handle guid protocols found) after).1
+        → Stays (done (interface_removed before.image handle guid protocols found) after).1
     row_removed handle guid interface None is = within
     row_removed handle guid interface (Some row) is = by_owner (is_owned_by before.image row) refl
       where
+        left : DbState
+        left = record protocols { rows = without_row handle guid protocols.rows }
+
         by_owner : (mine : Bool) → is_owned_by before.image row ≡ mine
-            → StaysWithin before (done (
-            if mine then SetsInterfaces (record protocols { rows = without_row handle guid protocols.rows }) (Returns success) else Returns access_denied
+            → Stays (done (
+            if mine then SetsInterfaces left (Returns success) else Returns access_denied
             ) after).1
         by_owner true mine =
-            sets_interfaces (record protocols { rows = without_row handle guid protocols.rows }) (Returns success) (returns success) after within
+            sets_interfaces left (Returns success) (returns success) after within
             (own.removed before.image protocols within.orderly.installed handle guid interface row is mine)
         by_owner false mine = within
 
@@ -234,35 +250,40 @@ module _ (before : DomainState) where
 
   -- ---- handlers
 
-  sets_handlers : (registry : RegistryState) (next : Deed) → Keeps next → (after : DomainState) → StaysWithin before after
-      → SameHandlers before.image after.tables.registry registry → StaysWithin before (done (SetsHandlers registry next) after).1
-  sets_handlers registry next each after within same = each (with_handlers registry after) (handlers_within before after within registry same)
+  sets_handlers : (registry : RegistryState) (next : Deed) → Keeps next → (after : DomainState) → Stays after
+      → SameHandlers before.image after.tables.registry registry → Stays (done (SetsHandlers registry next) after).1
+  sets_handlers registry next each after within same =
+      each (with_handlers registry after) (handlers_within before after within registry same)
 
-  module _ (after : DomainState) (within : StaysWithin before after) where
+  module _ (after : DomainState) (within : Stays after) where
     abbrev registry : RegistryState
     registry = after.tables.registry
 
     code_registered : (guid : Option Guid) (address out : ℕ) (full : Bool)
-        → StaysWithin before (done (
+        → Stays (done (
         if full then Returns out_of_resources
         else SetsHandlers (with_handler guid (Code before.image address) registry) (gives out (registry.next + 1))
         ) after).1
     code_registered guid address out true = within
     code_registered guid address out false =
-        sets_handlers (with_handler guid (Code before.image address) registry) (gives out (registry.next + 1)) (gives_keeps out (registry.next + 1)) after within
+        sets_handlers (with_handler guid (Code before.image address) registry) (gives out (registry.next + 1))
+        (gives_keeps out (registry.next + 1)) after within
         (own.registered before.image registry within.orderly.numbered guid address)
 
     code_removed : (number : ℕ) (found : Option Handler) → handler_at number registry.handlers ≡ found
-        → StaysWithin before (done (handler_removed before.image number registry found) after).1
+        → Stays (done (handler_removed before.image number registry found) after).1
     code_removed number None is = within
     code_removed number (Some handler) is = by_owner (is_of before.image handler) refl
       where
+        left : RegistryState
+        left = record registry { handlers = without_number number registry.handlers }
+
         by_owner : (mine : Bool) → is_of before.image handler ≡ mine
-            → StaysWithin before (done (
-            if mine then SetsHandlers (record registry { handlers = without_number number registry.handlers }) (Returns success) else Returns access_denied
+            → Stays (done (
+            if mine then SetsHandlers left (Returns success) else Returns access_denied
             ) after).1
         by_owner true mine =
-            sets_handlers (record registry { handlers = without_number number registry.handlers }) (Returns success) (returns success) after within
+            sets_handlers left (Returns success) (returns success) after within
             (own.unregistered before.image registry within.orderly.numbered number handler is mine)
         by_owner false mine = within
 
@@ -278,13 +299,15 @@ module _ (before : DomainState) where
   registration_keeps address pointer out =
       let next : Option Guid → Deed = code_registration before.image address out in
       let named : Deed = Names pointer (λ guid. next (Some guid)) in
-      either ((address == 0) || not (address % 2 == 0)) (Returns invalid_parameter) (if pointer == 0 then next None else named) (returns invalid_parameter)
+      either ((address == 0) || not (address % 2 == 0)) (Returns invalid_parameter) (if pointer == 0 then next None else named)
+      (returns invalid_parameter)
       (either (pointer == 0) (next None) named (code_registration_keeps address out None)
       (names pointer (λ guid. next (Some guid)) (λ guid. code_registration_keeps address out (Some guid))))
 
   unregistration_keeps : (handle : ℕ) → Keeps (unregistration before.image handle)
   unregistration_keeps handle =
-      let next : RegistryState → Deed = λ registry. handler_removed before.image (handle - 1) registry (handler_at (handle - 1) registry.handlers) in
+      let next : RegistryState → Deed =
+      λ registry. handler_removed before.image (handle - 1) registry (handler_at (handle - 1) registry.handlers) in
       either (handle == 0) (Returns not_found) (SeesHandlers next) (returns not_found) (λ after within.
       code_removed after within (handle - 1) (handler_at (handle - 1) after.tables.registry.handlers) refl)
 
@@ -332,52 +355,59 @@ module _ (before : DomainState) where
 
   -- ---- arguments, and a whole service
 
-  stopped : {A : Type 0} (told : Result A Denial × DomainState) → StaysWithin before told.1 → StaysWithin before (stopping told).1
+  stopped : {A : Type 0} (told : Result A Denial × DomainState) → Stays told.1 → Stays (stopping told).1
   stopped (Ok value, after) within = within
   stopped (Err denial, after) within = within
 
-  then_within : {A B : Type 0} (told : Result A Served × DomainState) (next : A → DomainState → Result B Served × DomainState) → StaysWithin before told.1
-      → ((value : A) (after : DomainState) → StaysWithin before after → StaysWithin before (next value after).1)
-      → StaysWithin before (and_then told next).1
+  then_within : {A B : Type 0} (told : Result A Served × DomainState) (next : A → DomainState → Result B Served × DomainState) → Stays told.1
+      → ((value : A) (after : DomainState) → Stays after → Stays (next value after).1)
+      → Stays (and_then told next).1
   then_within (Ok value, after) next within each = each value after within
   then_within (Err served, after) next within each = within
 
-  argument_within : (n stack k : ℕ) (after : DomainState) → StaysWithin before after → StaysWithin before (argument n stack k after).1
+  argument_within : (n stack k : ℕ) (after : DomainState) → Stays after → Stays (argument n stack k after).1
   argument_within n stack k after within = by_test (nat_lt k n) ((stack + 8 * k) % 2 ^ 64)
     where
-      by_test : (there : Bool) (at : ℕ) → StaysWithin before (if there then stopping (read_at after at 8) else (Ok 0, after)).1
+      by_test : (there : Bool) (at : ℕ) → Stays (if there then stopping (read_at after at 8) else (Ok 0, after)).1
       by_test true at = stopped (read_at after at 8) (read_within before after within at 8)
       by_test false at = within
 
-  arguments_within : (n stack : ℕ) (after : DomainState) → StaysWithin before after → StaysWithin before (arguments_at n stack after).1
+  abbrev as_read : ℕ → ℕ → ℕ → ℕ → Arguments
+  as_read first second third fourth = record { first = first; second = second; third = third; fourth = fourth }
+
+  arguments_within : (n stack : ℕ) (after : DomainState) → Stays after → Stays (arguments_at n stack after).1
   arguments_within n stack after within =
       then_within (argument n stack 0 after) _ (argument_within n stack 0 after within) (λ first d0 w0.
       then_within (argument n stack 1 d0) _ (argument_within n stack 1 d0 w0) (λ second d1 w1.
       then_within (argument n stack 2 d1) _ (argument_within n stack 2 d1 w1) (λ third d2 w2.
-      then_within (argument n stack 3 d2) (λ fourth d3. (Ok (record { first = first; second = second; third = third; fourth = fourth }), d3))
+      then_within (argument n stack 3 d2) (λ fourth d3. (Ok (as_read first second third fourth), d3))
       (argument_within n stack 3 d2 w2) (λ fourth d3 w3. w3))))
 
-  served_within : (service : Service) (stack : ℕ) (after : DomainState) → StaysWithin before after → StaysWithin before (served service stack after).1
-  served_within service stack after within = by_test (after.tables.locked && ends_at_lock service)
-    where
-      made : (arguments : Arguments) (domain : DomainState) → StaysWithin before domain
-          → StaysWithin before (done (deed_of domain.image (region_in domain) service arguments) domain).1
-      made arguments domain w =
-          let P : ℕ → Type 0 = λ image. StaysWithin before (done (deed_of image (region_in domain) service arguments) domain).1 in
-          subst P (sym w.image) (deed_keeps (region_in domain) service arguments domain w)
+  module _ (service : Service) where
+    made : Arguments → DomainState → Served × DomainState
+    made arguments domain = done (deed_of domain.image (region_in domain) service arguments) domain
 
-      by_test : (closed : Bool)
-          → StaysWithin before (if closed then (Status access_denied, after) else
-          going_on (arguments_at (argument_count service) stack after) (λ arguments domain. done (deed_of domain.image (region_in domain) service arguments) domain)).1
-      by_test true = within
-      by_test false =
-          going (arguments_at (argument_count service) stack after) (λ arguments domain. done (deed_of domain.image (region_in domain) service arguments) domain)
-          (arguments_within (argument_count service) stack after within) made
+    made_within : (arguments : Arguments) (after : DomainState) → Stays after → Stays (made arguments after).1
+    unfolding made
+    made_within arguments after within =
+        let P : ℕ → Type 0 = λ image. Stays (done (deed_of image (region_in after) service arguments) after).1 in
+        subst P (sym within.image) (deed_keeps (region_in after) service arguments after within)
 
-  by_number_within : (number stack : ℕ) (after : DomainState) → StaysWithin before after → StaysWithin before (served_by_number number stack after).1
+    served_within : (stack : ℕ) (after : DomainState) → Stays after → Stays (served service stack after).1
+    unfolding made
+    served_within stack after within = by_test (after.tables.locked && ends_at_lock service)
+      where
+        by_test : (closed : Bool)
+            → Stays (if closed then (Status access_denied, after) else going_on (arguments_at (argument_count service) stack after) made).1
+        by_test true = within
+        by_test false =
+            going (arguments_at (argument_count service) stack after) made
+            (arguments_within (argument_count service) stack after within) made_within
+
+  by_number_within : (number stack : ℕ) (after : DomainState) → Stays after → Stays (served_by_number number stack after).1
   by_number_within number stack after within = by_service (slice_get all_services number)
     where
-      by_service : (found : Option Service) → StaysWithin before (option_map_or (λ service. served service stack after) found (Status unsupported, after)).1
+      by_service : (found : Option Service) → Stays (option_map_or (λ service. served service stack after) found (Status unsupported, after)).1
       by_service None = within
       by_service (Some service) = served_within service stack after within
 
