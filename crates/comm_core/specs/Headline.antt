@@ -58,8 +58,8 @@ pub record WasCapturedOnce (words : ℕ) (trace : List Trace) (position : ℕ) (
   pub in_order :
       Begins (map action_of piece) (whole words entry.request.length (Some (receipt_of position entry.outcome)))
 
--- The headline of what was driven from this machine value, whoever stored what to the lanes meanwhile. It is said of the
--- number of data words that a lane has, the values of each lane's words, the machine as it is now, the entries in
+-- The headline of what was driven from this machine value, whoever stored what to the lanes meanwhile. It is said of
+-- the number of data words that a lane has, the values of each lane's words, the machine as it is now, the entries in
 -- recorded order, and the trace:
 -- * each load of the trace gave what stood in the word;
 -- * the turns of the trace are those of the entries, in recorded order, one for each;
