@@ -1,5 +1,5 @@
 -- From what a world stands for to its headline.
-use Rattle.std.proofs.Common.{◌≡◌, ℕ, zero, suc, ◌+◌, ◌==◌, Bool, true, false, if◌then◌else◌, ◌&&◌, nat_lt, List, [], ◌∷◌, ◌++◌, length, map, take, drop, reverse, Option, Some, None, unwrap_or, refl, sym, ap, ◌∙◌, subst, arith}
+use Rattle.std.proofs.Common.{◌≡◌, ◌<◌, ℕ, zero, suc, ◌+◌, ◌==◌, Bool, true, false, if◌then◌else◌, ◌&&◌, nat_lt, List, [], ◌∷◌, ◌++◌, length, map, take, drop, reverse, Option, Some, None, unwrap_or, slice_index, refl, sym, ap, ◌∙◌, subst, arith}
 use Rattle.std.proofs.lemmas.Bool.{eqb-true, eqb-false, ne_eqb}
 use Rattle.std.proofs.lemmas.List.{append-nil, map-append, reverse-append}
 use Rattle.std.proofs.lemmas.Option.{none-some, same_Some, slice_get-map}
@@ -15,10 +15,12 @@ use Rattle.mm_base.specs.declared.entry.Request.{Request}
 use Rattle.comm_core.specs.Piece.{needed, store, answer, whole, loaded, length_in, turn_in, receipt_at, request_in}
 use Rattle.comm_core.specs.Capture.{Mark, Rung, Did, trace_of, value_at, last_saved, joined, pieces, marks_of, pieces_in, newest, requests, outcomes_of, rests, made, act, acts, longest, happens, after_events, course}
 use Rattle.mm_history.specs.History.{requests_of}
-use Rattle.comm_core.specs.Headline.{TellsTrue, turns_in, numbered, outcomes_in, WasCapturedOnce, Headline}
+use Rattle.comm_core.specs.Headline.{TellsTrue, turns_in, numbered_turns, outcomes_in, WasCapturedOnce}
 use Rattle.comm_core.specs.Laws.{Begins, LoadsOnce, IsServed, action_of}
 use Rattle.comm_core.specs.Standing.{captured, answered, AreWhole, StandsIn, next_at, Place, AtRest, Called, Capturing, Answering}
-use Rattle.comm_core.specs.World.{WorldState, StandsFor}
+use Rattle.comm_core.specs.WorldHeadline.{lane_values, HasHeadline}
+use Rattle.comm_core.specs.WorldState.{LaneState, WorldState}
+use Rattle.comm_core.specs.WorldPast.{StandsForEvents}
 use Rattle.comm_core.specs.declared.action.Action.{Action}
 use Rattle.comm_core.specs.declared.action.Action.TheVariants.{Rest, Load, Turn}
 use Rattle.comm_core.specs.declared.event.Event.{Event}
@@ -83,11 +85,11 @@ turns_in-append (Stored lane word value ∷ xs) ys = turns_in-append xs ys
 turns_in-append (Poked lane word value ∷ xs) ys = turns_in-append xs ys
 turns_in-append (Turned lane position ∷ xs) ys = ap (λ turns. (lane, position) ∷ turns) (turns_in-append xs ys)
 
-numbered-snoc : (k : ℕ) (rs : List Request) (r : Request) → numbered k (rs ++ r ∷ []) ≡ numbered k rs ++ (r.lane, k + length rs) ∷ []
-numbered-snoc k [] r = ap (λ n. (r.lane, n) ∷ []) (omega arith)
-numbered-snoc k (q ∷ rs) r =
+numbered_turns-snoc : (k : ℕ) (rs : List Request) (r : Request) → numbered_turns k (rs ++ r ∷ []) ≡ numbered_turns k rs ++ (r.lane, k + length rs) ∷ []
+numbered_turns-snoc k [] r = ap (λ n. (r.lane, n) ∷ []) (omega arith)
+numbered_turns-snoc k (q ∷ rs) r =
     ap (λ turns. (q.lane, k) ∷ turns)
-    (numbered-snoc (k + 1) rs r ∙ ap (λ n. numbered (k + 1) rs ++ (r.lane, n) ∷ []) (omega arith))
+    (numbered_turns-snoc (k + 1) rs r ∙ ap (λ n. numbered_turns (k + 1) rs ++ (r.lane, n) ∷ []) (omega arith))
 
 -- An entry's request is what one of these pieces, which came to its turn, loaded.
 record Entered (ps : List (List Trace)) (position : ℕ) (request : Request) : Type 0 where
@@ -222,14 +224,14 @@ elsewhere l lane x y h = ap (λ b. if b then x else y) (ne_eqb l lane h)
 -- what a past tells of its loads, its turns and its entries
 record Tells (past : List Mark) : Type 0 where
   loads : TellsTrue past
-  turns : turns_in (trace_of past) ≡ numbered 0 (requests past)
+  turns : turns_in (trace_of past) ≡ numbered_turns 0 (requests past)
   entered : AllEntered past
 
 -- a record that is no turn leaves the turns
 no_turn : (past : List Mark) (t : Trace)
     → turns_in (t ∷ []) ≡ []
-    → turns_in (trace_of past) ≡ numbered 0 (requests past)
-    → turns_in (trace_of past ++ t ∷ []) ≡ numbered 0 (requests past)
+    → turns_in (trace_of past) ≡ numbered_turns 0 (requests past)
+    → turns_in (trace_of past ++ t ∷ []) ≡ numbered_turns 0 (requests past)
 no_turn past t none e =
     turns_in-append (trace_of past) (t ∷ []) ∙ ap (λ more. turns_in (trace_of past) ++ more) none ∙ append-nil (turns_in (trace_of past))
     ∙ e
@@ -311,8 +313,8 @@ module _ (l : ℕ) where
         loads = t.loads;
         turns =
             turns_in-append (trace_of past) (made_one ∷ []) ∙ ap (λ turns. turns ++ (l, n) ∷ []) t.turns
-            ∙ ap (λ k. numbered 0 (requests past) ++ (l, k) ∷ []) (omega arith)
-            ∙ sym (numbered-snoc 0 (requests past) asked);
+            ∙ ap (λ k. numbered_turns 0 (requests past) ++ (l, k) ∷ []) (omega arith)
+            ∙ sym (numbered_turns-snoc 0 (requests past) asked);
         entered = λ position request h.
             last_or_front (requests past) asked request position (Entered (pieces request.lane now) position request) h
             (λ front.
@@ -506,11 +508,19 @@ served_older words outs lane past at place piece s h =
     let e : suc place ≡ place + 1 = omega arith in
     served words outs lane piece (older_whole words outs lane past at place piece s (ap (slice_get (pieces lane past)) e ∙ h))
 
+-- values of a world's lane are those of a lane that is there
+lane_of : (lanes : List LaneState) (lane : ℕ) (values : List ℕ)
+    → slice_get (lane_values lanes) lane ≡ Some values
+    → (seen : LaneState) × ((slice_get lanes lane ≡ Some seen) × (seen.values ≡ values))
+lane_of [] lane values there = absurd (none-some values there)
+lane_of (seen ∷ lanes) zero values there = (seen, (refl, same_Some seen.values values there))
+lane_of (seen ∷ lanes) (suc lane) values there = lane_of lanes lane values there
+
 -- what stands for events has the headline
 pub headline_of : {M : Type 0} (step : M → Request → Outcome × M) (m : M) (events : List Event) (w : WorldState M)
     → IsBounded step
-    → StandsFor step m events w
-    → Headline step m w
+    → StandsForEvents step m events w
+    → HasHeadline step m w
 headline_of {M} step m events w bounded s =
     let past : List Mark = course step m w.words events in
     let rs : List Request = requests past in
@@ -522,7 +532,7 @@ headline_of {M} step m events w bounded s =
     let T : List Trace → Type 0 = λ t. TellsTrue (marks_of t) in
     record {
       true_loads = subst T (sym s.trace) (true_told past k.tells.loads);
-      turns = ap turns_in s.trace ∙ k.tells.turns ∙ ap (numbered 0) (sym is_requests);
+      turns = ap turns_in s.trace ∙ k.tells.turns ∙ ap (numbered_turns 0) (sym is_requests);
       each_once = λ position entry h.
           let W : List Trace → Type 0 = λ t. WasCapturedOnce w.words t position entry in
           subst W (sym s.trace) (captured_once step m w.words past position entry k (ap (λ es. slice_get es position) (sym s.entries) ∙ h));
@@ -539,7 +549,10 @@ headline_of {M} step m events w bounded s =
           (ap (λ ps. slice_get ps 0) (sym (are_pieces lane)) ∙ h));
       one_thread = s.entries ∙ ap (replayed step m) (sym is_requests);
       state = s.now ∙ ap (left_by step m) (sym is_requests);
-      lanes =
-          λ lane seen word there h. (s.each lane seen there).values word h ∙ sym (value_told lane word past)
+      last_values = λ lane values word there h.
+          let at = lane_of w.lanes lane values there in
+          let V : List ℕ → Type 0 = λ vs. word < length vs → slice_index vs word ≡ value_at lane word past in
+          subst V at.1.1 (λ inside. (s.each lane at.0 at.1.0).values word inside) h
+          ∙ sym (value_told lane word past)
           ∙ ap (λ t. value_at lane word (marks_of t)) (sym s.trace);
     }

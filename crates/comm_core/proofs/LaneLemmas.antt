@@ -7,7 +7,8 @@ use Rattle.std.proofs.lemmas.Bool.{cases_lt, eqb-true, eqb-false}
 use Rattle.std.proofs.lemmas.List.Sums.{sum_by-set, sum_by-append, sum_by-cons, get_or-le-sum_by}
 use Rattle.std.proofs.lemmas.Option.{none-some, same_Some, slice_get-get_or, slice_get_within, slice_get_read, get_or_from_slice_get}
 use Rattle.comm_core.specs.Processor.{is_resting}
-use Rattle.comm_core.specs.World.{LaneState, WorldState, is_resting_at, turns_to_come}
+use Rattle.comm_core.specs.WorldState.{LaneState, WorldState}
+use Rattle.comm_core.specs.WorldReadiness.{is_resting_at, turns_to_come}
 use Rattle.comm_core.specs.TransitionsInside.{new_lane, new_lanes, no_lane, lane_at}
 use Rattle.comm_core.specs.declared.processor.Stage.{Stage}
 use Rattle.comm_core.specs.declared.processor.Stage.TheVariants.{Resting, Rung, Loading, Turning, Storing}

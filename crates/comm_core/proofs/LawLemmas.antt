@@ -7,7 +7,7 @@ use Rattle.mm_base.specs.Receipt.{receipt_of}
 use Rattle.mm_base.specs.declared.entry.Outcome.{Outcome}
 use Rattle.mm_base.specs.declared.entry.Request.{Request}
 use Rattle.mm_base.specs.declared.receipt.Receipt.{Receipt}
-use Rattle.comm_core.specs.Piece.{needed, loads, store, answer, whole, loaded, length_in, turn_in, receipt_at, next_in, request_in}
+use Rattle.comm_core.specs.Piece.{needed, loads_from, store, answer, whole, loaded, length_in, turn_in, receipt_at, next_in, request_in}
 use Rattle.comm_core.specs.Capture.{Mark, Rung, Did, pieces, newest, last_saved, requests, outcomes_of, is_rest, rests, made, next, acts, act, longest, happens, after_events, course}
 use Rattle.comm_core.specs.Laws.{Begins, action_of, loads_of, after_turn, IsOfRequest, LoadsOnce, IsServed}
 use Rattle.comm_core.specs.Standing.{loads_made, captured, answered, IsWhole, AreWhole, StandsIn, Place, AtRest, Called, Capturing, Answering}
@@ -31,11 +31,11 @@ begins_by xs rest ys e = ap (take (length xs)) e ∙ begins_with xs rest
 module _ (lane : ℕ) where
   -- the actions of a piece's records
   actions-loads_made : (word : ℕ) (values : List ℕ) (rest : List Trace)
-      → map action_of (loads_made lane word values ++ rest) ≡ loads word (length values) ++ map action_of rest
+      → map action_of (loads_made lane word values ++ rest) ≡ loads_from word (length values) ++ map action_of rest
   actions-loads_made word [] rest = refl
   actions-loads_made word (value ∷ values) rest = ap (λ more. Load word ∷ more) (actions-loads_made (word + 1) values rest)
 
-  actions-made : (word : ℕ) (values : List ℕ) → map action_of (loads_made lane word values) ≡ loads word (length values)
+  actions-made : (word : ℕ) (values : List ℕ) → map action_of (loads_made lane word values) ≡ loads_from word (length values)
   actions-made word [] = refl
   actions-made word (value ∷ values) = ap (λ more. Load word ∷ more) (actions-made (word + 1) values)
 
@@ -44,11 +44,11 @@ module _ (lane : ℕ) where
   actions-stores (to ∷ stores) = ap (λ more. store to ∷ more) (actions-stores stores)
 
   actions-answered : (len : ℕ) (values : List ℕ) (position : ℕ) (stores : List (ℕ × ℕ))
-      → map action_of (answered lane len values position stores) ≡ Load 0 ∷ (loads 2 (length values) ++ Turn ∷ map store stores)
+      → map action_of (answered lane len values position stores) ≡ Load 0 ∷ (loads_from 2 (length values) ++ Turn ∷ map store stores)
   actions-answered len values position stores =
       ap (λ more. Load 0 ∷ more)
       (actions-loads_made 2 values (Turned lane position ∷ map (λ to. Stored lane to.0 to.1) stores)
-      ∙ ap (λ more. loads 2 (length values) ++ Turn ∷ more) (actions-stores stores))
+      ∙ ap (λ more. loads_from 2 (length values) ++ Turn ∷ more) (actions-stores stores))
 
 unequal : {X : Type 0} (w word : ℕ) (x y : X) → (w ≡ word → ⊥) → (if w == word then x else y) ≡ y
 unequal w word x y h = ap (λ b. if b then x else y) (ne_eqb w word h)
@@ -147,15 +147,15 @@ module _ (words lane len : ℕ) (values : List ℕ) (position : ℕ) (stores : L
 abbrev pub BeginsWhole : ℕ → List Outcome → List Trace → Type 0
 BeginsWhole words outs piece = Begins (map action_of piece) (whole words (length_in piece) (receipt_at outs (turn_in piece)))
 
-loads-split : (word n m : ℕ) → m ≤ n → loads word n ≡ loads word m ++ loads (word + m) (n - m)
-loads-split word n zero h = ap (λ w. loads w n) (omega arith) ∙ ap (loads (word + 0)) (omega arith)
-loads-split word zero (suc m) h = absurd (omega (arith, h))
-loads-split word (suc n) (suc m) h =
+loads_from-split : (word n m : ℕ) → m ≤ n → loads_from word n ≡ loads_from word m ++ loads_from (word + m) (n - m)
+loads_from-split word n zero h = ap (λ w. loads_from w n) (omega arith) ∙ ap (loads_from (word + 0)) (omega arith)
+loads_from-split word zero (suc m) h = absurd (omega (arith, h))
+loads_from-split word (suc n) (suc m) h =
     let w : word + 1 + m ≡ word + suc m = omega arith in
     let k : n - m ≡ suc n - suc m = omega arith in
-    ap (λ more. Load word ∷ more) (loads-split (word + 1) n m (omega (arith, h)))
-    ∙ ap (λ x. Load word ∷ (loads (word + 1) m ++ loads x (n - m))) w
-    ∙ ap (λ x. Load word ∷ (loads (word + 1) m ++ loads (word + suc m) x)) k
+    ap (λ more. Load word ∷ more) (loads_from-split (word + 1) n m (omega (arith, h)))
+    ∙ ap (λ x. Load word ∷ (loads_from (word + 1) m ++ loads_from x (n - m))) w
+    ∙ ap (λ x. Load word ∷ (loads_from (word + 1) m ++ loads_from (word + suc m) x)) k
 
 map-split : {X Y : Type 0} (f : X → Y) (xs : List X) (n : ℕ) → map f xs ≡ map f (take n xs) ++ map f (drop n xs)
 map-split f xs zero = refl
@@ -176,7 +176,7 @@ module _ (words : ℕ) (outs : List Outcome) (lane : ℕ) where
             ap (receipt_at outs) (turn_in-answered lane w.len w.values w.position stores)
             ∙ receipt_at-told outs w.position w.outcome w.told_so;
         in_order =
-            actions-answered lane w.len w.values w.position stores ∙ ap (λ n. Load 0 ∷ (loads 2 n ++ Turn ∷ map store stores)) w.enough;
+            actions-answered lane w.len w.values w.position stores ∙ ap (λ n. Load 0 ∷ (loads_from 2 n ++ Turn ∷ map store stores)) w.enough;
         loads = loads_answered words lane w.len w.values w.position stores w.enough;
       }
 
@@ -251,11 +251,11 @@ module _ (words : ℕ) (outs : List Outcome) (lane : ℕ) where
   begins_captured len values h =
       let n : ℕ = needed words len in
       let v : ℕ = length values in
-      let rest : List Action = loads (2 + v) (n - v) ++ Turn ∷ [] in
+      let rest : List Action = loads_from (2 + v) (n - v) ++ Turn ∷ [] in
       let is : whole words len (receipt_at outs (turn_in (captured lane len values))) ≡ map action_of (captured lane len values) ++ rest =
       ap (λ t. whole words len (receipt_at outs t)) (turn_in-made lane 2 values)
-      ∙ ap (λ ls. Load 0 ∷ (ls ++ Turn ∷ [])) (loads-split 2 n v h)
-      ∙ ap (λ ls. Load 0 ∷ ls) (append_assoc (loads 2 v) (loads (2 + v) (n - v)) (Turn ∷ []))
+      ∙ ap (λ ls. Load 0 ∷ (ls ++ Turn ∷ [])) (loads_from-split 2 n v h)
+      ∙ ap (λ ls. Load 0 ∷ ls) (append_assoc (loads_from 2 v) (loads_from (2 + v) (n - v)) (Turn ∷ []))
       ∙ ap (λ ls. Load 0 ∷ (ls ++ rest)) (sym (actions-made lane 2 values)) in
       begins_by (map action_of (captured lane len values)) rest _ is
 
@@ -271,9 +271,9 @@ module _ (words : ℕ) (outs : List Outcome) (lane : ℕ) where
       ≡ map action_of (answered lane len values position front) ++ rest =
       ap (λ t. whole words len (receipt_at outs t)) (turn_in-answered lane len values position front)
       ∙ ap (whole words len) (receipt_at-told outs position outcome told_so)
-      ∙ ap (λ n. Load 0 ∷ (loads 2 n ++ Turn ∷ map store stores)) (sym enough)
-      ∙ ap (λ ss. Load 0 ∷ (loads 2 (length values) ++ Turn ∷ ss)) (map-split store stores stored)
-      ∙ ap (λ ls. Load 0 ∷ ls) (sym (append_assoc (loads 2 (length values)) (Turn ∷ map store front) rest))
+      ∙ ap (λ n. Load 0 ∷ (loads_from 2 n ++ Turn ∷ map store stores)) (sym enough)
+      ∙ ap (λ ss. Load 0 ∷ (loads_from 2 (length values) ++ Turn ∷ ss)) (map-split store stores stored)
+      ∙ ap (λ ls. Load 0 ∷ ls) (sym (append_assoc (loads_from 2 (length values)) (Turn ∷ map store front) rest))
       ∙ ap (λ ls. ls ++ rest) (sym (actions-answered lane len values position front)) in
       begins_by (map action_of (answered lane len values position front)) rest _ is
 

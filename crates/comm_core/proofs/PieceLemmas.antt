@@ -6,7 +6,7 @@ use Rattle.std.specs.Option.{option_map}
 use Rattle.std.proofs.lemmas.Bool.{cases_lt, lt-ltb, le-ltb}
 use Rattle.mm_base.specs.Receipt.{receipt_of}
 use Rattle.mm_base.specs.declared.entry.Outcome.{Outcome}
-use Rattle.comm_core.specs.Piece.{needed, loads, store, answer, whole, loaded, turn_in, receipt_at, next_in}
+use Rattle.comm_core.specs.Piece.{needed, loads_from, store, answer, whole, loaded, turn_in, receipt_at, next_in}
 use Rattle.comm_core.specs.Standing.{loads_made, captured, answered, next_at}
 use Rattle.comm_core.specs.Standing.{Capturing}
 use Rattle.comm_core.specs.declared.action.Action.{Action}
@@ -26,15 +26,15 @@ slice_get-after (x ∷ xs) ys zero j e = absurd (omega arith)
 slice_get-after (x ∷ xs) ys (suc i) j e = slice_get-after xs ys i j (omega arith)
 
 -- the loads of a whole piece
-pub length-loads : (word n : ℕ) → length (loads word n) ≡ n
-length-loads word zero = refl
-length-loads word (suc n) = ap suc (length-loads (word + 1) n)
+pub length-loads_from : (word n : ℕ) → length (loads_from word n) ≡ n
+length-loads_from word zero = refl
+length-loads_from word (suc n) = ap suc (length-loads_from (word + 1) n)
 
-pub slice_get-loads : (word n i : ℕ) → i < n → slice_get (loads word n) i ≡ Some (Load (word + i))
-slice_get-loads word zero i h = absurd (omega arith)
-slice_get-loads word (suc n) zero h = ap (λ w. Some (Load w)) (omega arith)
-slice_get-loads word (suc n) (suc i) h =
-    slice_get-loads (word + 1) n i (omega arith) ∙ ap (λ w. Some (Load w)) (omega arith)
+pub slice_get-loads_from : (word n i : ℕ) → i < n → slice_get (loads_from word n) i ≡ Some (Load (word + i))
+slice_get-loads_from word zero i h = absurd (omega arith)
+slice_get-loads_from word (suc n) zero h = ap (λ w. Some (Load w)) (omega arith)
+slice_get-loads_from word (suc n) (suc i) h =
+    slice_get-loads_from (word + 1) n i (omega arith) ∙ ap (λ w. Some (Load w)) (omega arith)
 
 module _ (lane : ℕ) where
   -- the records of loads
@@ -75,14 +75,14 @@ module _ (lane : ℕ) where
   loaded-captured len values = ap (λ vs. len ∷ vs) (loaded-made 2 values)
 
 -- after m loads comes the next one, or the turn
-capture_at : (n m : ℕ) → m ≤ n → unwrap_or (slice_get (loads 2 n ++ Turn ∷ []) m) Rest ≡ (if nat_lt m n then Load (2 + m) else Turn)
+capture_at : (n m : ℕ) → m ≤ n → unwrap_or (slice_get (loads_from 2 n ++ Turn ∷ []) m) Rest ≡ (if nat_lt m n then Load (2 + m) else Turn)
 capture_at n m h =
     elim (cases_lt m n) [
       | inl less ↦
-          ap (λ o. unwrap_or o Rest) (slice_get-front (loads 2 n) (Turn ∷ []) m (rw (length-loads 2 n) less) ∙ slice_get-loads 2 n m less)
+          ap (λ o. unwrap_or o Rest) (slice_get-front (loads_from 2 n) (Turn ∷ []) m (rw (length-loads_from 2 n) less) ∙ slice_get-loads_from 2 n m less)
           ∙ sym (ap (λ b. if b then Load (2 + m) else Turn) (lt-ltb m n less))
       | inr more ↦
-          ap (λ o. unwrap_or o Rest) (slice_get-after (loads 2 n) (Turn ∷ []) m 0 (rw (length-loads 2 n) (omega arith)))
+          ap (λ o. unwrap_or o Rest) (slice_get-after (loads_from 2 n) (Turn ∷ []) m 0 (rw (length-loads_from 2 n) (omega arith)))
           ∙ sym (ap (λ b. if b then Load (2 + m) else Turn) (le-ltb m n more))
     ]
 
@@ -110,7 +110,7 @@ module _ (words : ℕ) (outs : List Outcome) (lane len : ℕ) (values : List ℕ
   next_in-captured h =
       ap (λ t. unwrap_or (slice_get (whole words len (receipt_at outs t)) (length (captured lane len values))) Rest)
       (turn_in-made lane 2 values)
-      ∙ ap (λ n. unwrap_or (slice_get (loads 2 (needed words len) ++ Turn ∷ []) n) Rest) (length-loads_made lane 2 values)
+      ∙ ap (λ n. unwrap_or (slice_get (loads_from 2 (needed words len) ++ Turn ∷ []) n) Rest) (length-loads_made lane 2 values)
       ∙ capture_at (needed words len) (length values) h
 
   -- after the turn a piece has the stores that are left
@@ -126,6 +126,6 @@ module _ (words : ℕ) (outs : List Outcome) (lane len : ℕ) (values : List ℕ
       (turn_in-answered lane len values position stores)
       ∙ ap (λ r. unwrap_or (slice_get (whole words len r) (length (answered lane len values position stores))) Rest)
       (receipt_at-told outs position outcome told_so)
-      ∙ ap (λ k. unwrap_or (slice_get (Load 0 ∷ (loads 2 n ++ rest)) k) Rest) (length-answered lane len values position stores)
+      ∙ ap (λ k. unwrap_or (slice_get (Load 0 ∷ (loads_from 2 n ++ rest)) k) Rest) (length-answered lane len values position stores)
       ∙ ap (λ o. unwrap_or o Rest)
-      (slice_get-after (loads 2 n) rest (length values + suc (length stores)) (suc (length stores)) (rw (length-loads 2 n) (omega arith)))
+      (slice_get-after (loads_from 2 n) rest (length values + suc (length stores)) (suc (length stores)) (rw (length-loads_from 2 n) (omega arith)))

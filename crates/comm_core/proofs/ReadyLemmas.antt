@@ -14,7 +14,8 @@ use Rattle.mm_base.specs.declared.receipt.Receipt.{Receipt}
 use Rattle.comm_core.specs.Capture.{longest}
 use Rattle.comm_core.specs.Piece.{needed, answer, store, from_word}
 use Rattle.comm_core.specs.Processor.{is_resting, IsSound, IsBlank, MayRing, sealed, next_action, after_load, after_store, to_come, MayLoad, MayStore, MayTake}
-use Rattle.comm_core.specs.World.{LaneState, IsReady, IsLaneReady, HasRoom, IsRoomy, turns_to_come}
+use Rattle.comm_core.specs.WorldState.{LaneState}
+use Rattle.comm_core.specs.WorldReadiness.{IsReady, IsLaneReady, HasRoom, IsRoomy, turns_to_come}
 use Rattle.comm_core.specs.TransitionsInside.{asked, no_lane, new_lanes, records_left, lane_rung, lane_loaded, lane_answered, lane_stored, lane_poked}
 use Rattle.comm_core.specs.declared.action.Action.{Action}
 use Rattle.comm_core.specs.declared.action.Action.TheVariants.{Rest, Load, Turn, Store}

@@ -18,7 +18,9 @@ use Rattle.comm_core.specs.Capture.{Mark, Did, trace_of, value_at, last_saved, r
 use Rattle.comm_core.specs.Capture.{Rung as RungMark}
 use Rattle.comm_core.specs.Processor.{next_action, is_resting, after_load, after_store}
 use Rattle.comm_core.specs.Standing.{Place, AtRest, Called, Capturing, Answering, StandsIn, next_at}
-use Rattle.comm_core.specs.World.{LaneState, WorldState, LaneStands, Follows, StandsAt, StandsFor, IsOfWorld, entries_asked, rings_in, turns_to_come}
+use Rattle.comm_core.specs.WorldState.{LaneState, WorldState}
+use Rattle.comm_core.specs.WorldPast.{LaneStands, Follows, StandsAt, StandsForEvents}
+use Rattle.comm_core.specs.WorldReadiness.{IsOfWorld, entries_asked, rings_in, turns_to_come}
 use Rattle.comm_core.specs.TransitionsInside.{asked, no_lane, new_lanes, lane_at, lane_rung, lane_loaded, lane_answered, lane_stored, lane_poked, loads_word, stores_word, turns, goes_on, acts_once, acts_times, rung_at, pokes, after_event, prepared_for}
 use Rattle.comm_core.specs.declared.action.Action.{Action}
 use Rattle.comm_core.specs.declared.action.Action.TheVariants.{Rest, Load, Turn, Store}
@@ -624,8 +626,8 @@ module _ {M : Type 0} (step : M → Request → Outcome × M) (calls : M → ℕ
       → IsOfWorld (length w.lanes) w.words event
       → AreSized w
       → v ≡ after_event step calls w event
-      → StandsFor step m events w
-      → StandsFor step m (events ++ event ∷ []) v
+      → StandsForEvents step m events w
+      → StandsForEvents step m (events ++ event ∷ []) v
   stands_for_more m events event w v of_world sized is s =
       let on = stands_event m (course step m w.words events) w event of_world sized s in
       let past : course step m v.words (events ++ event ∷ []) ≡ happens step m w.words event (course step m w.words events) =
@@ -641,7 +643,7 @@ pub stands_on_ok : {M T E : Type 0} (r : Result T E) (step : M → Request → O
     → IsOfWorld (length w.lanes) w.words event
     → AreSized w
     → OnOk r (v ≡ after_event step calls w event)
-    → OnOk r ((m : M) (events : List Event) → StandsFor step m events w → StandsFor step m (events ++ event ∷ []) v)
+    → OnOk r ((m : M) (events : List Event) → StandsForEvents step m events w → StandsForEvents step m (events ++ event ∷ []) v)
 stands_on_ok (Ok x) step calls event w v of_world sized is = λ m events s. stands_for_more step calls m events event w v of_world sized is s
 stands_on_ok (Err e) step calls event w v of_world sized is = tt
 

@@ -7,7 +7,7 @@ use Rattle.mm_base.specs.declared.entry.Outcome.{Outcome}
 use Rattle.mm_base.specs.declared.entry.Request.{Request}
 use Rattle.mm_base.specs.declared.receipt.Receipt.{Receipt}
 use Rattle.comm_core.specs.Processor.{next_action}
-use Rattle.comm_core.specs.World.{LaneState, WorldState}
+use Rattle.comm_core.specs.WorldState.{LaneState, WorldState}
 use Rattle.comm_core.specs.TransitionsInside.{lane_at, lane_answered, acts_once, acts_times, goes_on, asked, turns}
 use Rattle.comm_core.specs.declared.action.Action.{Action}
 use Rattle.comm_core.specs.declared.action.Action.TheVariants.{Rest}

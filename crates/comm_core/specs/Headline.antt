@@ -1,5 +1,5 @@
--- The headline of a world, as far as it goes: what its trace and its entries say by themselves. Neither events nor a
--- processor are needed to read it.
+-- The headline of a world, as far as it goes: what its words, its machine, its entries and its trace say by themselves.
+-- Neither events nor a processor are needed to read it.
 use Rattle.std.specs.Prelude.{◌≡◌, ◌<◌, ℕ, ◌+◌, List, [], ◌∷◌, length, map, Some, slice_get, slice_index, ⊤}
 use Rattle.mm_base.specs.Receipt.{receipt_of}
 use Rattle.mm_base.specs.Replay.{replayed, left_by}
@@ -10,8 +10,6 @@ use Rattle.mm_history.specs.History.{requests_of}
 use Rattle.comm_core.specs.Piece.{whole, length_in, turn_in, receipt_at, request_in}
 use Rattle.comm_core.specs.Capture.{Mark, Rung, Did, marks_of, pieces_in, value_at}
 use Rattle.comm_core.specs.Laws.{Begins, LoadsOnce, IsServed, action_of}
-use Rattle.comm_core.specs.World.{LaneState, WorldState, StandsFor}
-use Rattle.comm_core.specs.declared.event.Event.{Event}
 use Rattle.comm_core.specs.declared.trace.Trace.{Trace}
 use Rattle.comm_core.specs.declared.trace.Trace.TheVariants.{Loaded, Stored, Poked, Turned}
 
@@ -32,20 +30,24 @@ turns_in (Stored lane word value ∷ trace) = turns_in trace
 turns_in (Poked lane word value ∷ trace) = turns_in trace
 turns_in (Turned lane position ∷ trace) = (lane, position) ∷ turns_in trace
 
--- the turns of entries in recorded order, numbered from this one on
-abbrev pub numbered : ℕ → List Request → List (ℕ × ℕ)
-numbered position [] = []
-numbered position (request ∷ requests) = (request.lane, position) ∷ numbered (position + 1) requests
+-- the turns of requests in recorded order, numbered from this position on
+abbrev pub numbered_turns : ℕ → List Request → List (ℕ × ℕ)
+numbered_turns position [] = []
+numbered_turns position (request ∷ requests) = (request.lane, position) ∷ numbered_turns (position + 1) requests
 
 -- the outcomes of entries
 abbrev pub outcomes_in : List Entry → List Outcome
 outcomes_in entries = map (λ entry. entry.outcome) entries
 
--- An entry was captured once: a piece of its lane has its turn. What this piece loaded is the entry's request (its
--- registers are those of the ring, which no trace tells). It loads each word of the request exactly once, no other
--- word, and nothing after the turn. Its records are, in order, how the actions of a whole piece begin, for the length
--- that was captured and for what the entry's outcome tells: so the stores after the turn are the reply's words, its
--- length and the status, and no others.
+-- An entry was captured once: a piece of its lane has its turn. What this piece loaded is the entry's request. It loads
+-- each word of the request exactly once, no other word, and nothing after the turn. Its records are, in order, how the
+-- actions of a whole piece begin, for the length that was captured and for what the entry's outcome tells: so the
+-- stores after the turn are the reply's words, its length and the status, and no others.
+--
+-- The saved registers of a request are taken from the entry itself, since no trace tells them. What pins them: a world
+-- stands for events only where its entries are those of the captured requests (`entries` of `StandsAt`, in
+-- `WorldPast.antt`), and a captured request has the registers that its lane's accepted ring saved (`requests`, in
+-- `Capture.antt`).
 pub record WasCapturedOnce (words : ℕ) (trace : List Trace) (position : ℕ) (entry : Entry) : Type 0 where
   pub place : ℕ
   pub piece : List Trace
@@ -56,38 +58,36 @@ pub record WasCapturedOnce (words : ℕ) (trace : List Trace) (position : ℕ) (
   pub in_order :
       Begins (map action_of piece) (whole words entry.request.length (Some (receipt_of position entry.outcome)))
 
--- The headline of a world that was driven from this machine value, whoever stored what to its lanes meanwhile:
--- * each load of its trace gave what stood in the word;
--- * the turns of its trace are those of its entries, in recorded order, one for each;
+-- The headline of what was driven from this machine value, whoever stored what to the lanes meanwhile. It is said of
+-- the number of data words that a lane has, the values of each lane's words, the machine as it is now, the entries in
+-- recorded order, and the trace:
+-- * each load of the trace gave what stood in the word;
+-- * the turns of the trace are those of the entries, in recorded order, one for each;
 -- * each entry was captured once;
 -- * a lane did nothing besides: each of its pieces but the newest was served whole, and the newest, which may be under
 --   way, is how a whole piece begins;
--- * its entries are what the machine by itself makes of the captured requests, one after another: the replies,
+-- * the entries are what the machine by itself makes of the captured requests, one after another: the replies,
 --   statuses, invocations, denials and cell writes in them;
--- * its machine is what that leaves;
--- * each word of each of its lanes has the value of the last store or poke to it.
-pub record Headline {M : Type 0} (step : M → Request → Outcome × M) (machine : M) (w : WorldState M) : Type 0 where
-  pub true_loads : TellsTrue (marks_of w.trace)
-  pub turns : turns_in w.trace ≡ numbered 0 (requests_of w.entries)
+-- * the machine is what that leaves;
+-- * each word of each lane has the value of the last store or poke to it.
+pub record Headline {M : Type 0} (step : M → Request → Outcome × M) (machine : M)
+    (words : ℕ) (lanes : List (List ℕ)) (now : M) (entries : List Entry) (trace : List Trace) : Type 0 where
+  pub true_loads : TellsTrue (marks_of trace)
+  pub turns : turns_in trace ≡ numbered_turns 0 (requests_of entries)
   pub each_once : (position : ℕ) (entry : Entry)
-      → slice_get w.entries position ≡ Some entry
-      → WasCapturedOnce w.words w.trace position entry
+      → slice_get entries position ≡ Some entry
+      → WasCapturedOnce words trace position entry
   pub served : (lane place : ℕ) (piece : List Trace)
-      → slice_get (pieces_in lane w.trace) (place + 1) ≡ Some piece
-      → IsServed w.words (outcomes_in w.entries) piece
+      → slice_get (pieces_in lane trace) (place + 1) ≡ Some piece
+      → IsServed words (outcomes_in entries) piece
   pub begun : (lane : ℕ) (piece : List Trace)
-      → slice_get (pieces_in lane w.trace) 0 ≡ Some piece
+      → slice_get (pieces_in lane trace) 0 ≡ Some piece
       → Begins
       (map action_of piece)
-      (whole w.words (length_in piece) (receipt_at (outcomes_in w.entries) (turn_in piece)))
-  pub one_thread : w.entries ≡ replayed step machine (requests_of w.entries)
-  pub state : w.machine ≡ left_by step machine (requests_of w.entries)
-  pub lanes : (lane : ℕ) (seen : LaneState) (word : ℕ)
-      → slice_get w.lanes lane ≡ Some seen
-      → word < length seen.values
-      → slice_index seen.values word ≡ value_at lane word (marks_of w.trace)
-
--- Every world that stands for any list of events has it.
-abbrev pub EachHasHeadline : {M : Type 0} → (M → Request → Outcome × M) → Type 0
-EachHasHeadline {M} step =
-    (machine : M) (events : List Event) (w : WorldState M) → StandsFor step machine events w → Headline step machine w
+      (whole words (length_in piece) (receipt_at (outcomes_in entries) (turn_in piece)))
+  pub one_thread : entries ≡ replayed step machine (requests_of entries)
+  pub state : now ≡ left_by step machine (requests_of entries)
+  pub last_values : (lane : ℕ) (values : List ℕ) (word : ℕ)
+      → slice_get lanes lane ≡ Some values
+      → word < length values
+      → slice_index values word ≡ value_at lane word (marks_of trace)

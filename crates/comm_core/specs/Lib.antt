@@ -6,4 +6,7 @@ pub mod Processor
 pub mod Standing
 pub mod TestMachine
 pub mod TransitionsInside
-pub mod World
+pub mod WorldHeadline
+pub mod WorldPast
+pub mod WorldReadiness
+pub mod WorldState

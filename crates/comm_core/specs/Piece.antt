@@ -23,9 +23,9 @@ abbrev pub needed : ℕ → ℕ → ℕ
 needed words length = if nat_le 24 length && nat_le length (8 * words) then words_for length else 0
 
 -- loads of n words from this one on, rising
-abbrev pub loads : ℕ → ℕ → List Action
-loads word zero = []
-loads word (suc n) = Load word ∷ loads (word + 1) n
+abbrev pub loads_from : ℕ → ℕ → List Action
+loads_from word zero = []
+loads_from word (suc n) = Load word ∷ loads_from (word + 1) n
 
 -- a store, as the word and the value
 abbrev pub store : ℕ × ℕ → Action
@@ -51,7 +51,7 @@ answer_if (Some receipt) = answer receipt
 -- A whole piece, in order: one load of the length word, which gives the length; one load of each data word that the
 -- request needs; one turn; and the stores of its receipt.
 abbrev pub whole : ℕ → ℕ → Option Receipt → List Action
-whole words length receipt = Load 0 ∷ (loads 2 (needed words length) ++ Turn ∷ map store (answer_if receipt))
+whole words length receipt = Load 0 ∷ (loads_from 2 (needed words length) ++ Turn ∷ map store (answer_if receipt))
 
 -- the values that the loads of a piece gave, in order
 abbrev pub loaded : List Trace → List ℕ

@@ -1,7 +1,7 @@
 -- No public clause cites this file.
 -- What each step of the code does to a lane and to a world: what the methods of `Lane` and the private methods of
--- `World` are proved against. This goes the code's way. What a world stands for is said by looking back (`World.antt`,
--- `Capture.antt`), and the proofs lead from here to there.
+-- `World` are proved against. This goes the code's way. What a world stands for is said by looking back
+-- (`WorldPast.antt`, `Capture.antt`), and the proofs lead from here to there.
 use Rattle.std.specs.Prelude.{ℕ, zero, suc, ◌+◌, ◌*◌, if◌then◌else◌, List, [], ◌∷◌, ◌++◌, length, take, replicate, slice_index, slice_index_or, slice_set, sum_by}
 use Rattle.mm_base.specs.Entry.{blank_entry}
 use Rattle.mm_base.specs.Prepared.{PreparedState}
@@ -19,7 +19,7 @@ use Rattle.comm_core.specs.declared.event.Event.TheVariants.{Ring, Poke, Steps, 
 use Rattle.comm_core.specs.declared.processor.Stage.{Stage}
 use Rattle.comm_core.specs.declared.processor.Stage.TheVariants.{Resting, Rung, Loading, Turning, Storing}
 use Rattle.comm_core.specs.declared.trace.Trace.TheVariants.{Loaded, Stored, Poked, Turned}
-use Rattle.comm_core.specs.World.{LaneState, WorldState}
+use Rattle.comm_core.specs.WorldState.{LaneState, WorldState}
 
 -- the request that a processor of this lane has captured
 abbrev pub asked : ℕ → Stage → Request

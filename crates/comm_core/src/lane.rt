@@ -17,7 +17,7 @@ pub struct Lane {
 }
 
 impl Model for Lane {
-    ghost use Rattle.comm_core.specs.World.{LaneState};
+    ghost use Rattle.comm_core.specs.WorldState.{LaneState};
 
     ghost Value = { LaneState };
 

@@ -1,6 +1,6 @@
 //! Laws of the capture, for every machine, every list of events of any lanes, and every lane and lane size.
 ghost use Rattle.std.specs.Prelude.{◌≡◌};
-ghost use Rattle.comm_core.specs.Headline.{EachHasHeadline};
+ghost use Rattle.comm_core.specs.WorldHeadline.{EachHasHeadline};
 ghost use Rattle.comm_core.specs.Laws.{EachWordOnce, OlderAreServed, EachBegins, RequestsStay, CourseRequestsStay, RunRests};
 
 use crate::{LEAST_WORDS, MOST_WORDS};
@@ -24,7 +24,7 @@ pub fn run_rests<M: Machine>()
     ensures { RunRests M.stepped }
 {}
 
-/// The headline, of every world that stands for any list of events: what its trace and its entries say by themselves.
+/// The headline, of every world that stands for any list of events: what its words, machine, entries and trace say.
 pub fn headline<M: Machine>()
     ensures { EachHasHeadline M.stepped }
 {}

@@ -1,6 +1,6 @@
 ghost use Rattle.std.specs.Prelude.{◌≡◌, ◌≤◌, ◌<◌, ◌+◌, if◌then◌else◌, nat_le, true, replicate, refl, IfOk};
 ghost use Rattle.comm_core.specs.TestMachine.{clipped};
-ghost use Rattle.comm_core.specs.World.{IsOfWorld};
+ghost use Rattle.comm_core.specs.WorldReadiness.{IsOfWorld};
 ghost use Rattle.std.proofs.Common.{arith, ◌-◌, length};
 ghost use Rattle.std.proofs.lemmas.List.{length-take};
 

@@ -2,7 +2,9 @@
 ghost use Rattle.std.specs.Prelude.{◌≡◌, ◌≤◌, ◌<◌, ◌+◌, ◌^◌, [], ◌∷◌, ◌++◌, List, length, slice_index, slice_get, Some, IfOk, OnOk, OnErr, IsOk, ◌↔◌, false};
 ghost use Rattle.comm_core.specs.Capture.{longest};
 ghost use Rattle.comm_core.specs.Processor.{next_action, IsSound};
-ghost use Rattle.comm_core.specs.World.{LaneState, StandsFor, IsOfWorld, entries_asked, rings_in, is_resting_at, takes_memory};
+ghost use Rattle.comm_core.specs.WorldState.{LaneState};
+ghost use Rattle.comm_core.specs.WorldPast.{StandsForEvents};
+ghost use Rattle.comm_core.specs.WorldReadiness.{IsOfWorld, entries_asked, rings_in, is_resting_at, takes_memory};
 ghost use Rattle.comm_core.specs.TransitionsInside.{new_lanes, lane_at, loads_word, stores_word, turns, acts_once, acts_times, pokes, rung_at, prepared_for};
 
 use crate::lane::{Lane, records_to_come};
@@ -24,7 +26,8 @@ pub struct World<M: Machine> {
 
 impl<M: Machine> Model for World<M> {
     ghost use Rattle.std.specs.Prelude.{length};
-    ghost use Rattle.comm_core.specs.World.{WorldState, IsReady};
+    ghost use Rattle.comm_core.specs.WorldState.{WorldState};
+    ghost use Rattle.comm_core.specs.WorldReadiness.{IsReady};
 
     ghost Value = { WorldState M };
 
@@ -48,7 +51,7 @@ impl<M: Machine + Drop> World<M> {
         requires few { lanes ≤ 16 }
         requires low { 3 ≤ words }
         requires high { words ≤ 512 }
-        ensures stands { IfOk result (λ world. StandsFor M.stepped machine [] world) }
+        ensures stands { IfOk result (λ world. StandsForEvents M.stepped machine [] world) }
         ensures words { IfOk result (λ world. world.words ≡ words) }
         ensures lanes { IfOk result (λ world. length world.lanes ≡ lanes) }
         ensures entries { IfOk result (λ world. entries_asked world ≡ 0) }
@@ -111,8 +114,8 @@ impl<M: Machine> World<M> {
         requires there { IsOfWorld (length self.old.lanes) self.old.words event.now }
         requires room { length self.old.entries < 2 ^ 32 }
         ensures stands { OnOk result ((machine : M) (events : List Event) →
-            StandsFor M.stepped machine events self.old →
-            StandsFor M.stepped machine (events ++ event.now ∷ []) self.new) }
+            StandsForEvents M.stepped machine events self.old →
+            StandsForEvents M.stepped machine (events ++ event.now ∷ []) self.new) }
         ensures ok { takes_memory self.old.lanes event.now ≡ false → IsOk result }
         ensures err { OnErr result (self.new ≡ self.old) }
         ensures words { self.new.words ≡ self.old.words }

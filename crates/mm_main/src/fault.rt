@@ -80,10 +80,18 @@ impl<'a> Fault<'a> {
             Status::WriteFault => Some(Fault::Write),
             Status::TooLong(which) => Some(Fault::TooLong {
                 name: name_of(which, first, second),
-                most: command.map_or(0, |command| command.most_bytes()),
+                most: most_of(command, which),
             }),
             Status::NoMemory(_) => Some(Fault::NoMemory),
         }
+    }
+}
+
+/// The most bytes that this source of the command may have.
+fn most_of(command: Option<Command>, which: Which) -> u32 {
+    match command {
+        Some(command) => command.source(which).map_or(0, |kind| kind.most_bytes()),
+        None => 0,
     }
 }
 

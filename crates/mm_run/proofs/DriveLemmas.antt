@@ -2,7 +2,7 @@
 use Rattle.std.proofs.Common.{◌≡◌, ◌<◌, ◌≤◌, ℕ, ◌+◌, List, [], ◌∷◌, ◌++◌, length, take, drop, get_or, sum_by, sym, ap, ◌∙◌, arith, append_assoc, add-one}
 use Rattle.std.proofs.Math.Seq.{take-suc}
 use Rattle.std.proofs.lemmas.List.Sums.{sum_by-drop_more}
-use Rattle.comm_core.specs.World.{rings_in}
+use Rattle.comm_core.specs.WorldReadiness.{rings_in}
 use Rattle.comm_core.specs.declared.event.Event.{Event}
 
 -- the events up to one, and that one

@@ -1,3 +1,4 @@
 pub mod DriveLemmas
+pub mod OneSourceLemmas
 pub mod RunLemmas
 pub mod ScriptLemmas

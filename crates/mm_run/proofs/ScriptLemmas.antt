@@ -6,13 +6,17 @@ use Rattle.std.proofs.lemmas.List.Elements.{All-same}
 use Rattle.mm_base.specs.Replay.{replayed}
 use Rattle.mm_base.specs.declared.entry.Entry.{Entry}
 use Rattle.comm_core.specs.Capture.{Mark, trace_of, course, requests, value_at}
-use Rattle.comm_core.specs.World.{LaneState, WorldState, StandsFor, IsOfWorld}
+use Rattle.comm_core.specs.WorldHeadline.{lane_values}
+use Rattle.comm_core.specs.WorldState.{LaneState, WorldState}
+use Rattle.comm_core.specs.WorldPast.{StandsForEvents}
+use Rattle.comm_core.specs.WorldReadiness.{IsOfWorld}
 use Rattle.comm_core.specs.declared.event.Event.{Event}
 use Rattle.comm_core.specs.declared.script.Script.{Script}
 use Rattle.mm_core.specs.CoreState.{CoreState}
 use Rattle.mm_core.specs.EntryStep.{core_step}
 use Rattle.mm_text.specs.Report.{HaveFrontWords}
-use Rattle.mm_run.specs.ScriptRun.{IsDriven, core_of, past_of, entries_of, values_from, lanes_of, lane_words, run_report, report_for}
+use Rattle.mm_run.specs.RunInside.{IsDriven}
+use Rattle.mm_run.specs.ScriptRun.{core_of, past_of, entries_of, values_from, lanes_of, run_report, report_for}
 
 -- what is of a script's world is of the world that has as many lanes and words
 pub all_of_world : (script : Script) (lanes words : ℕ) (told : List Event) → lanes ≡ script.lanes → words ≡ script.words → told ≡ script.events → All (IsOfWorld script.lanes script.words) script.events → All (IsOfWorld lanes words) told
@@ -22,10 +26,10 @@ all_of_world script lanes words told le we te h =
     subst P (sym le) (subst Q (sym we) (All-same (IsOfWorld script.lanes script.words) told script.events te h))
 
 -- the world stands for the script's events
-pub stands_for_script : (script : Script) (told : List Event) (core : CoreState) (before now : WorldState CoreState) → core ≡ core_of script → told ≡ script.events → StandsFor core_step core [] before → ((machine : CoreState) (so_far : List Event) → StandsFor core_step machine so_far before → StandsFor core_step machine (so_far ++ told) now) → StandsFor core_step (core_of script) script.events now
+pub stands_for_script : (script : Script) (told : List Event) (core : CoreState) (before now : WorldState CoreState) → core ≡ core_of script → told ≡ script.events → StandsForEvents core_step core [] before → ((machine : CoreState) (so_far : List Event) → StandsForEvents core_step machine so_far before → StandsForEvents core_step machine (so_far ++ told) now) → StandsForEvents core_step (core_of script) script.events now
 stands_for_script script told core before now ce te s on =
-    let P : CoreState → Type 0 = λ m. StandsFor core_step m [] before in
-    let Q : List Event → Type 0 = λ es. StandsFor core_step (core_of script) es now in
+    let P : CoreState → Type 0 = λ m. StandsForEvents core_step m [] before in
+    let Q : List Event → Type 0 = λ es. StandsForEvents core_step (core_of script) es now in
     subst Q te (on (core_of script) [] (subst P ce s))
 
 -- a lane's words are the values that the past tells
@@ -72,17 +76,17 @@ pub front_words : (words : ℕ) (lanes : List (List ℕ)) → All (λ lane. leng
 front_words words lanes all = λ k d l. omega (arith, all k d l)
 
 -- what is driven is what the definitions say
-pub driven_is : (script : Script) (w : WorldState CoreState) (copied : List (List ℕ)) (text : List ℕ) → w.words ≡ script.words → length w.lanes ≡ script.lanes → copied ≡ lane_words w → All (λ lane. length lane ≡ w.words + 2) copied → StandsFor core_step (core_of script) script.events w → text ≡ run_report w.entries copied → IsDriven script w text
+pub driven_is : (core : CoreState) (script : Script) (w : WorldState CoreState) (copied : List (List ℕ)) (text : List ℕ) → w.words ≡ script.words → length w.lanes ≡ script.lanes → copied ≡ lane_values w.lanes → All (λ lane. length lane ≡ w.words + 2) copied → StandsForEvents core_step core script.events w → text ≡ run_report w.entries copied → IsDriven core script w text
 unfolding entries_of lanes_of past_of report_for
-driven_is script w copied text ws ls cs all s t =
-    let now : List Mark = course core_step (core_of script) w.words script.events in
-    let told : List Mark = course core_step (core_of script) script.words script.events in
-    let past : now ≡ told = ap (λ n. course core_step (core_of script) n script.events) ws in
-    let entries : w.entries ≡ replayed core_step (core_of script) (requests told) =
-    s.entries ∙ ap (λ p. replayed core_step (core_of script) (requests p)) past in
+driven_is core script w copied text ws ls cs all s t =
+    let now : List Mark = course core_step core w.words script.events in
+    let told : List Mark = course core_step core script.words script.events in
+    let past : now ≡ told = ap (λ n. course core_step core n script.events) ws in
+    let entries : w.entries ≡ replayed core_step core (requests told) =
+    s.entries ∙ ap (λ p. replayed core_step core (requests p)) past in
     let P : List (List ℕ) → Type 0 = λ ls. All (λ lane. length lane ≡ w.words + 2) ls in
-    let sizes : All (λ lane. length lane ≡ w.words + 2) (lane_words w) = subst P cs all in
-    let lanes : lane_words w ≡ map (λ lane. values_from lane 0 (script.words + 2) told) (range_with_len 0 script.lanes) =
+    let sizes : All (λ lane. length lane ≡ w.words + 2) (lane_values w.lanes) = subst P cs all in
+    let lanes : lane_values w.lanes ≡ map (λ lane. values_from lane 0 (script.words + 2) told) (range_with_len 0 script.lanes) =
     lanes_same 0 script.lanes (script.words + 2) told w.lanes ls
     (λ i seen there. (
       size_of (w.words + 2) w.lanes sizes i seen there ∙ ap (λ n. n + 2) ws,
@@ -96,5 +100,5 @@ driven_is script w copied text ws ls cs all s t =
       lanes = lanes;
       reported =
           t ∙ ap (λ (es : List Entry). run_report es copied) entries
-          ∙ ap (λ (ls : List (List ℕ)). run_report (replayed core_step (core_of script) (requests told)) ls) (cs ∙ lanes);
+          ∙ ap (λ (ls : List (List ℕ)). run_report (replayed core_step core (requests told)) ls) (cs ∙ lanes);
     }

@@ -1,5 +1,5 @@
 -- What a run of the program makes of a volume.
-use Rattle.std.specs.Prelude.{◌≡◌, ℕ, List, Option, Some, None}
+use Rattle.std.specs.Prelude.{◌≡◌, ℕ, List, [], ◌∷◌, Option, Some, None}
 use Rattle.mm_base.specs.declared.policy.Policy.{Policy}
 use Rattle.mm_base.specs.declared.volume.Volume.{Volume}
 use Rattle.volume_reader.specs.VolumeGrammar.{IsVolume}
@@ -10,10 +10,11 @@ use Rattle.volume_policy.specs.PolicyFiles.{IsVolumePolicy}
 
 -- the report of a volume and the words of its files
 abbrev pub volume_report : Volume → List FileWord → List ℕ
-volume_report volume words = report_of (record { volume = Some volume; words = Some words; entries = None; lanes = None })
+volume_report volume words =
+    report_of (record { volume = Some volume; words = Some words; entries = None; lanes = None })
 
--- This is the report of the volume that bytes are: its line, and a line for each of its files with the file's word. Its policy is lawful, where
--- it has one.
+-- This is the report of the volume that bytes are: its line, and a line for each of its files with the file's word. Its
+-- policy is lawful, where it has one.
 pub record IsVolumeReport (bytes text : List ℕ) : Type 0 where
   pub volume : Volume
   pub is : IsVolume bytes volume
@@ -22,3 +23,9 @@ pub record IsVolumeReport (bytes text : List ℕ) : Type 0 where
   pub words : List FileWord
   pub are : AreWords bytes volume.files words
   pub reported : text ≡ volume_report volume words
+
+-- The report of `check` for what its one source gave.
+pub record IsCheckReport (contents : List (List ℕ)) (text : List ℕ) : Type 0 where
+  pub bytes : List ℕ
+  pub given : contents ≡ bytes ∷ []
+  pub report : IsVolumeReport bytes text

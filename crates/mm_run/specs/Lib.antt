@@ -1,5 +1,9 @@
 pub mod CheckRun
 pub mod Command
 pub mod Run
+pub mod RunHeadline
+pub mod RunInside
 pub mod ScriptRun
+pub mod SourceKinds
+pub mod Sources
 pub mod Status

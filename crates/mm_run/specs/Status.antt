@@ -9,7 +9,8 @@ use Rattle.volume_reader.specs.declared.volume_fault.VolumeFault.{VolumeFault}
 use Rattle.mm_base.specs.declared.policy.PolicyFault.{PolicyFault}
 use Rattle.mm_run.specs.declared.status.BadKind.TheVariants.{Volume, Policy}
 use Rattle.mm_run.specs.declared.status.Status.{Status}
-use Rattle.mm_run.specs.declared.status.Status.TheVariants.{Done, Usage, BadVolume, BadText, ReadFault, WriteFault, TooLong, NoMemory}
+use Rattle.mm_run.specs.declared.status.Status.TheVariants.{Done, Usage, BadVolume, BadText, ReadFault, WriteFault, TooLong}
+use Rattle.mm_run.specs.declared.status.Status.TheVariants.{NoMemory}
 use Rattle.mm_run.specs.declared.status.Which.{Which}
 
 -- the exit status

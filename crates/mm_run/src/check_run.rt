@@ -1,8 +1,8 @@
 //! What a run makes of a volume.
 ghost use Rattle.std.specs.Prelude.{◌≡◌, ◌≤◌, IfOk, IfErr, length};
 ghost use Rattle.mm_run.specs.CheckRun.{volume_report};
-ghost use Rattle.mm_run.specs.Run.{IsMadeOfVolume, RefusesBytes};
-ghost use Rattle.mm_run.specs.declared.command.Command.TheVariants.{Check};
+ghost use Rattle.mm_run.specs.RunInside.{IsMadeOfVolume, RefusesBytes};
+ghost use Rattle.mm_run.specs.declared.source_kind.SourceKind.TheVariants.{VolumeBytes};
 
 use crate::made::Made;
 use crate::status::Status;
@@ -18,7 +18,7 @@ use volume_reader::read_volume;
 pub(crate) fn check_volume(alloc: Global, bytes: &[u8]) -> Result<Made, Status>
     requires { length bytes.now ≤ 16777216 }
     ensures ok { IfOk result (IsMadeOfVolume bytes.now) }
-    ensures err { IfErr result (RefusesBytes Check bytes.now) }
+    ensures err { IfErr result (RefusesBytes VolumeBytes bytes.now) }
 {
     let volume = read_volume(alloc, bytes)?;
     policy_of(alloc, bytes, &volume)?;

@@ -1,12 +1,10 @@
 //! The commands that the program serves.
 ghost use Rattle.std.specs.Prelude.{◌≡◌};
-ghost use Rattle.mm_run.specs.Command.{command_of as command_of_words, most_bytes as most_of_command};
+ghost use Rattle.mm_run.specs.Command.{command_of as command_of_words};
+ghost use Rattle.mm_run.specs.Sources.{sources_of, kind_at};
 
-/// The most bytes that a script may have.
-const MOST_SCRIPT_BYTES: u32 = 4_194_304;
-
-/// The most bytes that a volume may have.
-const MOST_VOLUME_BYTES: u32 = 16_777_216;
+use crate::source_kind::SourceKind;
+use crate::status::Which;
 
 /// A command, by the first word of the command line. Each takes one word more, which names its source.
 #[derive(Clone, Copy, Debug, PartialEq, Eq)]
@@ -18,13 +16,14 @@ pub enum Command {
 }
 
 impl Command {
-    /// The most bytes that the command's source may have.
-    pub fn most_bytes(self) -> u32
-        ensures { result ≡ most_of_command self }
+    /// The kind of the command's first or second source; None where it has none.
+    pub fn source(self, which: Which) -> Option<SourceKind>
+        ensures { result ≡ kind_at which (sources_of self) }
     {
-        match self {
-            Command::Script => MOST_SCRIPT_BYTES,
-            Command::Check => MOST_VOLUME_BYTES,
+        match (self, which) {
+            (Command::Script, Which::First) => Some(SourceKind::ScriptText),
+            (Command::Check, Which::First) => Some(SourceKind::VolumeBytes),
+            (_, Which::Second) => None,
         }
     }
 }

@@ -1,4 +1,4 @@
-//! Floor: program. It promises that a command ends with the status that its source's bytes and faults give, and that what is
+//! Floor: program. It promises that a command ends with the status that its sources' bytes and faults give, and that what is
 //! written is the report of the world that a script drives or of the volume that bytes are. It never opens a file or prints.
 #![tactic(auto)]
 
@@ -8,9 +8,11 @@ mod drive;
 mod lanes;
 mod made;
 mod script_run;
+mod source_kind;
 mod status;
 mod top_call;
 
 pub use command::{Command, command_of};
+pub use source_kind::SourceKind;
 pub use status::{BadKind, Status, Which};
 pub use top_call::{RunEnd, run};

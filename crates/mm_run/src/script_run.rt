@@ -3,10 +3,10 @@ ghost use Rattle.std.specs.Prelude.{◌≡◌, ◌≤◌, Some, true, IfOk, IfEr
 ghost use Rattle.mm_core.specs.EntryStep.{core_step};
 ghost use Rattle.mm_text.specs.Limits.{IsWithinLimits};
 ghost use Rattle.mm_text.specs.ScriptText.{IsScript};
-ghost use Rattle.comm_core.specs.World.{StandsFor};
-ghost use Rattle.mm_run.specs.ScriptRun.{core_of, IsDriven};
-ghost use Rattle.mm_run.specs.Run.{IsDrivenBy, IsMadeOfScript, RefusesBytes};
-ghost use Rattle.mm_run.specs.declared.command.Command.TheVariants.{Script as ScriptCommand};
+ghost use Rattle.comm_core.specs.WorldPast.{StandsForEvents};
+ghost use Rattle.mm_run.specs.ScriptRun.{core_of};
+ghost use Rattle.mm_run.specs.RunInside.{IsDriven, IsDrivenBy, IsMadeOfScript, RefusesBytes};
+ghost use Rattle.mm_run.specs.declared.source_kind.SourceKind.TheVariants.{ScriptText};
 
 use crate::drive::drive;
 use crate::lanes::words_of_lanes;
@@ -22,7 +22,7 @@ use std::alloc::Global;
 pub(crate) fn run_script(alloc: Global, bytes: &[u8]) -> Result<Made, Status>
     requires { length bytes.now ≤ 4194304 }
     ensures ok { IfOk result (IsMadeOfScript bytes.now) }
-    ensures err { IfErr result (RefusesBytes ScriptCommand bytes.now) }
+    ensures err { IfErr result (RefusesBytes ScriptText bytes.now) }
 {
     let script = read_script(alloc, bytes, true)?;
     Ok(driven(alloc, &script)?)
@@ -51,7 +51,7 @@ fn driven(alloc: Global, script: &Script) -> Result<Made, NoMemory>
 /// The world that the script drives.
 fn driven_world(alloc: Global, script: &Script) -> Result<World<Core>, NoMemory>
     requires { IsWithinLimits script.now }
-    ensures stands { IfOk result (StandsFor core_step (core_of script.now) script.now.events) }
+    ensures stands { IfOk result (StandsForEvents core_step (core_of script.now) script.now.events) }
     ensures words { IfOk result (λ world. world.words ≡ script.now.words) }
     ensures lanes { IfOk result (λ world. length world.lanes ≡ script.now.lanes) }
 {

@@ -13,7 +13,7 @@ use volume_reader::VolumeEnd;
 pub enum Which {
     /// The script or the volume.
     First,
-    /// The source that a form names behind it; no form that is served has one yet.
+    /// The source that a form names after it; no form that is served has one yet.
     Second,
 }
 
@@ -39,7 +39,7 @@ pub enum Status {
     BadText { line: u32, kind: TextKind },
     /// A source could not be read.
     ReadFault(Which),
-    /// The report could not be written, or a front of it alone.
+    /// The report could not be written, or only a front of it.
     WriteFault,
     /// A source has more bytes than it may.
     TooLong(Which),

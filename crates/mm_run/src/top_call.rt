@@ -1,20 +1,23 @@
 //! The program's top call.
-ghost use Rattle.std.specs.Prelude.{◌≡◌, ◌≤◌, ◌↔◌, ◌⊎◌, Some, None, true, false, IfOk, IfErr, length};
+ghost use Rattle.std.specs.Prelude.{◌≡◌, ◌↔◌, ◌⊎◌, Some, None, true, false, [], ◌∷◌, IfOk, IfErr};
 ghost use Rattle.mm_base.specs.End.{out_of_memory};
 ghost use Rattle.mm_io.specs.Causes.{Rose};
-ghost use Rattle.mm_io.specs.Streams.{Appends, AppendsFront, GivesAll};
-ghost use Rattle.mm_run.specs.Command.{command_of as command_of_words, most_bytes};
-ghost use Rattle.mm_run.specs.Run.{Holds, HoldsFault, Refusal, RefusesBytes, Reports, IsMadeOf, IsMade};
-ghost use Rattle.mm_run.specs.ScriptRun.{HasHeadline};
+ghost use Rattle.mm_io.specs.Streams.{Appends, AppendsFront};
+ghost use Rattle.mm_run.specs.Command.{command_of as command_of_words, drives};
+ghost use Rattle.mm_run.specs.Run.{Reports};
+ghost use Rattle.mm_run.specs.RunHeadline.{IsHeadlineOf, StandsForScript, OfWorld};
+ghost use Rattle.mm_run.specs.RunInside.{one_source, IsMade};
+ghost use Rattle.mm_run.specs.Sources.{seen, source as source_of, sources, sources_of, sources_named};
+ghost use Rattle.mm_run.specs.Sources.{Stops, StopsAt, AllHoldGood, FirstBad, OthersAreUntouched, WasRead};
 ghost use Rattle.mm_run.specs.Status.{writes, has_no_world};
 ghost use Rattle.mm_run.specs.declared.command.Command.{Command as CommandValue};
-ghost use Rattle.mm_run.specs.declared.command.Command.TheVariants.{Script as ScriptCommand, Check as CheckCommand};
 ghost use Rattle.mm_run.specs.declared.status.Status.{Status as StatusValue};
 
 use crate::check_run::check_volume;
 use crate::command::{Command, command_of};
 use crate::made::Made;
 use crate::script_run::run_script;
+use crate::source_kind::SourceKind;
 use crate::status::{Status, Which};
 use comm_core::World;
 use mm_base::Bytes;
@@ -41,37 +44,69 @@ pub fn run<V: Source, S: Source, K: Sink>(
     second: &mut S,
     out: &mut K,
 ) -> RunEnd
-    // Each status by its cause.
+    // Each status by its cause, in this order: the first source is read; its fault is told; the same for the second; the run
+    // is made; the report is written.
     ensures usage { (result.status ≡ Status.Usage) ↔ (command_of_words words.now.items ≡ None) }
-    ensures refusal { (command : CommandValue) → command_of_words words.now.items ≡ Some command → writes result.status ≡ false → Refusal command (V.left first.old) (V.left first.new) (Rose (V.fault_count first.old) (V.fault_count first.new)) result.status }
+    ensures refusal { (command : CommandValue) → command_of_words words.now.items ≡ Some command →
+        writes result.status ≡ false →
+        Stops (sources (sources_of command)
+        (seen V.left V.fault_count first.old first.new) (seen S.left S.fault_count second.old second.new))
+        (second.new ≡ second.old) result.status }
     ensures write_fault { result.status ≡ Status.WriteFault → Rose (K.fault_count out.old) (K.fault_count out.new) }
 
-    // What is written: the report of the command for the bytes read, a front of it, or nothing.
-    ensures done { (command : CommandValue) → command_of_words words.now.items ≡ Some command → result.status ≡ Status.Done → Reports command (V.left first.old) (V.left first.new) (Appends (K.written out.old) (K.written out.new)) }
-    ensures front { (command : CommandValue) → command_of_words words.now.items ≡ Some command → result.status ≡ Status.WriteFault → Reports command (V.left first.old) (V.left first.new) (AppendsFront (K.written out.old) (K.written out.new)) }
+    // What is written: the report of the command for what its sources gave, a front of it, or nothing.
+    ensures done { (command : CommandValue) → command_of_words words.now.items ≡ Some command →
+        result.status ≡ Status.Done →
+        Reports command (sources (sources_of command)
+        (seen V.left V.fault_count first.old first.new) (seen S.left S.fault_count second.old second.new))
+        (Appends (K.written out.old) (K.written out.new)) }
+    ensures front { (command : CommandValue) → command_of_words words.now.items ≡ Some command →
+        result.status ≡ Status.WriteFault →
+        Reports command (sources (sources_of command)
+        (seen V.left V.fault_count first.old first.new) (seen S.left S.fault_count second.old second.new))
+        (AppendsFront (K.written out.old) (K.written out.new)) }
     ensures nothing { writes result.status ≡ false → out.new ≡ out.old }
 
-    // A source that can be read, and whose bytes are as the command wants them, is served, out of memory aside.
+    // Sources whose bytes are good, with no fault risen, are served, out of memory aside.
     ensures complete { (command : CommandValue) → command_of_words words.now.items ≡ Some command →
-        Holds command (V.left first.old) → (Rose (V.fault_count first.old) (V.fault_count first.new) → ⊥) →
+        AllHoldGood (sources (sources_of command)
+        (seen V.left V.fault_count first.old first.new) (seen S.left S.fault_count second.old second.new)) →
         (Rose (K.fault_count out.old) (K.fault_count out.new) → ⊥) →
         (result.status ≡ Status.Done) ⊎ (result.status ≡ Status.NoMemory out_of_memory) }
 
-    // Bytes with a fault are refused at their first fault, out of memory aside.
-    ensures faulty { (command : CommandValue) (status : StatusValue) → command_of_words words.now.items ≡ Some command →
-        HoldsFault command (V.left first.old) status → (Rose (V.fault_count first.old) (V.fault_count first.new) → ⊥) →
+    // The first source whose bytes have a fault, or are too many, is refused for that, out of memory aside.
+    ensures faulty { (command : CommandValue) (status : StatusValue) →
+        command_of_words words.now.items ≡ Some command →
+        FirstBad (sources (sources_of command)
+        (seen V.left V.fault_count first.old first.new) (seen S.left S.fault_count second.old second.new)) status →
         (result.status ≡ status) ⊎ (result.status ≡ Status.NoMemory out_of_memory) }
 
-    // The headline, and with it the world that was driven. Whatever the script stores between any two steps, each entry
-    // loads each word of its request exactly once, and the replies, statuses and records are the one-thread core's on the
-    // captured requests, in recorded order.
-    ensures headline { command_of_words words.now.items ≡ Some ScriptCommand → writes result.status ≡ true → HasHeadline (V.left first.old) (V.left first.new) (K.written out.old) (K.written out.new) result.status result.world }
-    ensures no_world { has_no_world result.status ≡ true → result.world ≡ None }
-    ensures worldless { command_of_words words.now.items ≡ Some CheckCommand → result.world ≡ None }
+    // The headline. Whatever the script stores between any two steps, each entry loads each word of its request exactly once,
+    // and the replies, statuses and records are the one-thread core's on the captured requests, in recorded order.
+    ensures headline { (command : CommandValue) → command_of_words words.now.items ≡ Some command →
+        drives command ≡ true →
+        writes result.status ≡ true →
+        OfWorld
+        (IsHeadlineOf command (sources (sources_of command)
+        (seen V.left V.fault_count first.old first.new) (seen S.left S.fault_count second.old second.new))
+        (K.written out.old) (K.written out.new) result.status)
+        result.world }
 
-    // No source is read that the form doesn't name.
-    ensures unread { result.status ≡ Status.Usage → first.new ≡ first.old }
-    ensures second { second.new ≡ second.old }
+    // The world that is handed out stands for the script's events from that core.
+    ensures stands { (command : CommandValue) → command_of_words words.now.items ≡ Some command →
+        drives command ≡ true →
+        writes result.status ≡ true →
+        OfWorld
+        (StandsForScript command (sources (sources_of command)
+        (seen V.left V.fault_count first.old first.new) (seen S.left S.fault_count second.old second.new)))
+        result.world }
+    ensures no_world { has_no_world result.status ≡ true → result.world ≡ None }
+    ensures worldless { (command : CommandValue) → command_of_words words.now.items ≡ Some command →
+        drives command ≡ false → result.world ≡ None }
+
+    // A source is untouched that the words don't name.
+    ensures untouched { OthersAreUntouched (sources_named (command_of_words words.now.items))
+        (first.new ≡ first.old) (second.new ≡ second.old) }
 {
     match command_of(words.as_slice()) {
         Some(command) => serve(alloc, command, first, out),
@@ -92,22 +127,36 @@ fn refused(status: Status) -> RunEnd
 
 /// Serves a command.
 fn serve<V: Source, K: Sink>(alloc: Global, command: Command, first: &mut V, out: &mut K) -> RunEnd
-    ensures refusal { writes result.status ≡ false → Refusal command (V.left first.old) (V.left first.new) (Rose (V.fault_count first.old) (V.fault_count first.new)) result.status }
+    ensures refusal { writes result.status ≡ false →
+        StopsAt (one_source command (seen V.left V.fault_count first.old first.new)) result.status }
     ensures served { result.status ≡ Status.Usage → ⊥ }
     ensures write_fault { result.status ≡ Status.WriteFault → Rose (K.fault_count out.old) (K.fault_count out.new) }
-    ensures done { result.status ≡ Status.Done → Reports command (V.left first.old) (V.left first.new) (Appends (K.written out.old) (K.written out.new)) }
-    ensures front { result.status ≡ Status.WriteFault → Reports command (V.left first.old) (V.left first.new) (AppendsFront (K.written out.old) (K.written out.new)) }
+    ensures done { result.status ≡ Status.Done →
+        Reports command (one_source command (seen V.left V.fault_count first.old first.new) ∷ [])
+        (Appends (K.written out.old) (K.written out.new)) }
+    ensures front { result.status ≡ Status.WriteFault →
+        Reports command (one_source command (seen V.left V.fault_count first.old first.new) ∷ [])
+        (AppendsFront (K.written out.old) (K.written out.new)) }
     ensures nothing { writes result.status ≡ false → out.new ≡ out.old }
-    ensures complete { Holds command (V.left first.old) →
-        (Rose (V.fault_count first.old) (V.fault_count first.new) → ⊥) →
+    ensures complete { AllHoldGood (one_source command (seen V.left V.fault_count first.old first.new) ∷ []) →
         (Rose (K.fault_count out.old) (K.fault_count out.new) → ⊥) →
         (result.status ≡ Status.Done) ⊎ (result.status ≡ Status.NoMemory out_of_memory) }
-    ensures faulty { (status : StatusValue) → HoldsFault command (V.left first.old) status →
-        (Rose (V.fault_count first.old) (V.fault_count first.new) → ⊥) →
+    ensures faulty { (status : StatusValue) →
+        FirstBad (one_source command (seen V.left V.fault_count first.old first.new) ∷ []) status →
         (result.status ≡ status) ⊎ (result.status ≡ Status.NoMemory out_of_memory) }
-    ensures headline { command ≡ ScriptCommand → writes result.status ≡ true → HasHeadline (V.left first.old) (V.left first.new) (K.written out.old) (K.written out.new) result.status result.world }
+    ensures headline { drives command ≡ true →
+        writes result.status ≡ true →
+        OfWorld
+        (IsHeadlineOf command (one_source command (seen V.left V.fault_count first.old first.new) ∷ [])
+        (K.written out.old) (K.written out.new) result.status)
+        result.world }
+    ensures stands { drives command ≡ true →
+        writes result.status ≡ true →
+        OfWorld
+        (StandsForScript command (one_source command (seen V.left V.fault_count first.old first.new) ∷ []))
+        result.world }
     ensures no_world { has_no_world result.status ≡ true → result.world ≡ None }
-    ensures worldless { command ≡ CheckCommand → result.world ≡ None }
+    ensures worldless { drives command ≡ false → result.world ≡ None }
 {
     match make(alloc, command, first) {
         Ok(made) => write(made, out),
@@ -115,35 +164,36 @@ fn serve<V: Source, K: Sink>(alloc: Global, command: Command, first: &mut V, out
     }
 }
 
-/// Reads the source, and makes of it what the command says.
+/// Reads the command's source, and makes of it what the command says.
 fn make<V: Source>(alloc: Global, command: Command, first: &mut V) -> Result<Made, Status>
-    ensures ok { IfOk result (IsMade command (V.left first.old) (V.left first.new)) }
-    ensures err { IfErr result (Refusal command (V.left first.old) (V.left first.new) (Rose (V.fault_count first.old) (V.fault_count first.new))) }
+    ensures ok { IfOk result (IsMade command (seen V.left V.fault_count first.old first.new)) }
+    ensures err { IfErr result (StopsAt (one_source command (seen V.left V.fault_count first.old first.new))) }
 {
-    let bytes = read(alloc, command, first)?;
-    made_of(alloc, command, bytes.as_slice())
-}
-
-/// All bytes of the source.
-fn read<V: Source>(alloc: Global, command: Command, first: &mut V) -> Result<Bytes, Status>
-    ensures ok { IfOk result (GivesAll (V.left first.old) (V.left first.new) (most_bytes command)) }
-    ensures err { IfErr result (Refusal command (V.left first.old) (V.left first.new) (Rose (V.fault_count first.old) (V.fault_count first.new))) }
-{
-    match read_all(alloc, first, command.most_bytes()) {
-        Ok(bytes) => Ok(bytes),
-        Err(end) => Err(Status::of_read(end, Which::First)),
+    match command {
+        Command::Script => {
+            let text = read(alloc, SourceKind::ScriptText, Which::First, first)?;
+            run_script(alloc, text.as_slice())
+        }
+        Command::Check => {
+            let volume = read(alloc, SourceKind::VolumeBytes, Which::First, first)?;
+            check_volume(alloc, volume.as_slice())
+        }
     }
 }
 
-/// What the command makes of the bytes of its source.
-fn made_of(alloc: Global, command: Command, bytes: &[u8]) -> Result<Made, Status>
-    requires { length bytes.now ≤ most_bytes command }
-    ensures ok { IfOk result (IsMadeOf command bytes.now) }
-    ensures err { IfErr result (RefusesBytes command bytes.now) }
+/// All bytes of a source of this kind.
+fn read<S: Source>(
+    alloc: Global,
+    kind: SourceKind,
+    which: Which,
+    source: &mut S,
+) -> Result<Bytes, Status>
+    ensures ok { IfOk result (WasRead (source_of which kind (seen S.left S.fault_count source.old source.new))) }
+    ensures err { IfErr result (StopsAt (source_of which kind (seen S.left S.fault_count source.old source.new))) }
 {
-    match command {
-        Command::Script => run_script(alloc, bytes),
-        Command::Check => check_volume(alloc, bytes),
+    match read_all(alloc, source, kind.most_bytes()) {
+        Ok(bytes) => Ok(bytes),
+        Err(end) => Err(Status::of_read(end, which)),
     }
 }
 

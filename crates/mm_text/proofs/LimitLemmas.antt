@@ -10,12 +10,12 @@ use Rattle.mm_base.specs.Numbers.{words_of_bytes, words_for, first_words}
 use Rattle.mm_base.specs.declared.cells.CellWrite.{CellWrite}
 use Rattle.mm_base.specs.declared.handler.Handler.{Handler as Registered}
 use Rattle.mm_core.specs.Scripted.{is_stub, AreStubs, numbered}
-use Rattle.comm_core.specs.World.{rings_in}
+use Rattle.comm_core.specs.WorldReadiness.{rings_in}
 use Rattle.comm_core.specs.declared.event.Event.{Event}
 use Rattle.comm_core.specs.declared.event.Event.TheVariants as event
 use Rattle.comm_core.specs.declared.script.Script.{Script}
 use Rattle.mm_text.specs.Fields.{keyword_of}
-use Rattle.comm_core.specs.World.{IsOfWorld}
+use Rattle.comm_core.specs.WorldReadiness.{IsOfWorld}
 use Rattle.mm_text.specs.Limits.{IsWithinLimits}
 use Rattle.mm_text.specs.ScriptText.{lines_of, said_in, is_event, has_none, may_stand, lanes_in, words_in, kind_of, place_of, is_handler, is_ring, are_distinct, is_in_range, Says, IsAccepted, pokes, saved_of, events_of, cells_of, stubs_of, script_of, IsScript}
 use Rattle.mm_text.proofs.BuilderLemmas.{lanes_in-push, words_in-push, flat_map-push, count_by-push, length-numbered}

@@ -3,7 +3,7 @@ use Rattle.std.specs.Prelude.{◌≤◌, length}
 use Rattle.std.specs.List.{All, sum_by}
 use Rattle.mm_base.specs.Cells.{IsOpening}
 use Rattle.mm_core.specs.Scripted.{AreStubs}
-use Rattle.comm_core.specs.World.{IsOfWorld, rings_in}
+use Rattle.comm_core.specs.WorldReadiness.{IsOfWorld, rings_in}
 use Rattle.comm_core.specs.declared.script.Script.{Script}
 
 -- 1 to 16 lanes of 3 to 512 data words; cells that the platform has, with values that they may hold; at most 64 handlers, each

@@ -1,6 +1,7 @@
 use Rattle.std.proofs.Common.{◌++◌, List, take, ◌∙◌, subst}
 use Rattle.comm_core.specs.Capture.{course}
-use Rattle.comm_core.specs.World.{StandsAt, entries_asked}
+use Rattle.comm_core.specs.WorldPast.{StandsAt}
+use Rattle.comm_core.specs.WorldReadiness.{entries_asked}
 use Rattle.comm_core.specs.declared.event.Event.{Event}
 use Rattle.mm_run.proofs.DriveLemmas.{one_more, few_more}
 use Rattle.mm_run.proofs.drive.drive.Goals as goal

@@ -1,5 +1,5 @@
 use Rattle.std.proofs.Common.{◌∙◌, ap, sum_by, arith}
-use Rattle.comm_core.specs.World.{rings_in}
+use Rattle.comm_core.specs.WorldReadiness.{rings_in}
 use Rattle.mm_run.proofs.ScriptLemmas.{all_of_world, stands_for_script}
 use Rattle.mm_run.proofs.script_run.driven_world.Goals as goal
 

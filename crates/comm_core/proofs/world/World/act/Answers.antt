@@ -2,7 +2,7 @@ use Rattle.std.proofs.Common.{◌≡◌, ℕ, ◌<◌, length, ◌∙◌, sym, a
 use Rattle.std.proofs.lemmas.Option.{get_or_from_slice_get}
 use Rattle.comm_core.specs.Processor.{next_action, IsSound}
 use Rattle.comm_core.specs.TransitionsInside.{no_lane, lane_at}
-use Rattle.comm_core.specs.World.{LaneState, WorldState}
+use Rattle.comm_core.specs.WorldState.{LaneState, WorldState}
 use Rattle.comm_core.specs.declared.action.Action.TheVariants.{Rest, Load, Turn, Store}
 use Rattle.comm_core.proofs.LaneLemmas.{read_there}
 use Rattle.comm_core.proofs.ReadyLemmas.{found_there}

@@ -1,6 +1,7 @@
 use Rattle.std.proofs.Common.{ℕ, ◌≡◌, ◌≤◌, ◌+◌, ◌∙◌, length, OnOk, refl, sym, ap, subst, arith}
 use Rattle.comm_core.specs.Capture.{longest}
-use Rattle.comm_core.specs.World.{entries_asked, rings_in, WorldState}
+use Rattle.comm_core.specs.WorldState.{WorldState}
+use Rattle.comm_core.specs.WorldReadiness.{entries_asked, rings_in}
 use Rattle.comm_core.specs.TransitionsInside.{after_event, acts_times}
 use Rattle.comm_core.specs.declared.event.Event.{Event}
 use Rattle.comm_core.proofs.StandsLemmas.{AreSized, stands_for_more, stands_on_ok, either_way, after_event_words, after_event_lanes, after_event_asked}

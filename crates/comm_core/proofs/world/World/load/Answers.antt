@@ -1,7 +1,7 @@
 use Rattle.std.proofs.Common.{ℕ, ◌<◌, length, ◌∙◌, sym, ap, subst, arith}
 use Rattle.comm_core.specs.Processor.{next_action, MayLoad}
 use Rattle.comm_core.specs.TransitionsInside.{lane_at}
-use Rattle.comm_core.specs.World.{WorldState}
+use Rattle.comm_core.specs.WorldState.{WorldState}
 use Rattle.comm_core.proofs.LaneLemmas.{read_there}
 use Rattle.comm_core.proofs.ReadyLemmas.{next_there, may_load, load_within, room_for_load, ready_load}
 use Rattle.comm_core.proofs.world.World.load.Goals as goal

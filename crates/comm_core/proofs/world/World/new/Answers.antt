@@ -2,7 +2,9 @@ use Rattle.std.proofs.Common.{List, [], length, ◌∙◌, sym, ap, subst, arith
 use Rattle.mm_base.specs.Room.{RoomState}
 use Rattle.mm_history.specs.History.{KeptState}
 use Rattle.comm_core.specs.TransitionsInside.{new_lanes}
-use Rattle.comm_core.specs.World.{LaneState, IsReady, StandsAt, turns_to_come}
+use Rattle.comm_core.specs.WorldState.{LaneState}
+use Rattle.comm_core.specs.WorldPast.{StandsAt}
+use Rattle.comm_core.specs.WorldReadiness.{IsReady, turns_to_come}
 use Rattle.comm_core.specs.declared.trace.Trace.{Trace}
 use Rattle.std.specs.List.{sum_by}
 use Rattle.comm_core.proofs.LaneLemmas.{length-new_lanes}

@@ -1,6 +1,6 @@
 use Rattle.std.proofs.Common.{◌<◌, length, ◌∙◌, ap, arith}
 use Rattle.comm_core.specs.TransitionsInside.{records_left}
-use Rattle.comm_core.specs.World.{WorldState}
+use Rattle.comm_core.specs.WorldState.{WorldState}
 use Rattle.comm_core.proofs.LaneLemmas.{read_there}
 use Rattle.comm_core.proofs.ReadyLemmas.{ready_poke}
 use Rattle.comm_core.proofs.world.World.poke.Goals as goal

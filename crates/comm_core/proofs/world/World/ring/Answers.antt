@@ -2,7 +2,8 @@ use Rattle.std.proofs.Common.{◌^◌, ◌<◌, length, true, ◌≡◌, ◌∙�
 use Rattle.mm_base.specs.Prepared.{PreparedState}
 use Rattle.comm_core.specs.Processor.{IsBlank, is_resting}
 use Rattle.comm_core.specs.TransitionsInside.{records_left}
-use Rattle.comm_core.specs.World.{LaneState, WorldState, IsRoomy}
+use Rattle.comm_core.specs.WorldState.{LaneState, WorldState}
+use Rattle.comm_core.specs.WorldReadiness.{IsRoomy}
 use Rattle.comm_core.proofs.LaneLemmas.{read_there, same_there}
 use Rattle.comm_core.proofs.ReadyLemmas.{may_ring, ready_ring}
 use Rattle.comm_core.proofs.world.World.ring.Goals as goal

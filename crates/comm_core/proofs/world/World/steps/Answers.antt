@@ -1,5 +1,5 @@
 use Rattle.std.proofs.Common.{◌-◌, ◌+◌, ◌∙◌, length, sym, ap, arith}
-use Rattle.comm_core.specs.World.{WorldState}
+use Rattle.comm_core.specs.WorldState.{WorldState}
 use Rattle.comm_core.specs.TransitionsInside.{acts_times}
 use Rattle.comm_core.proofs.StandsLemmas.{acts_times_lanes}
 use Rattle.comm_core.proofs.WorldViews.{rest_stays, acts_one_less}

@@ -2,7 +2,7 @@ use Rattle.std.proofs.Common.{◌<◌, length, ◌∙◌, sym, ap, subst, arith}
 use Rattle.std.proofs.lemmas.Option.{get_or_from_slice_get}
 use Rattle.comm_core.specs.Processor.{next_action, IsSound}
 use Rattle.comm_core.specs.TransitionsInside.{lane_at, no_lane}
-use Rattle.comm_core.specs.World.{LaneState, WorldState}
+use Rattle.comm_core.specs.WorldState.{LaneState, WorldState}
 use Rattle.comm_core.proofs.LaneLemmas.{read_there}
 use Rattle.comm_core.proofs.ReadyLemmas.{next_there, store_within, ready_store}
 use Rattle.comm_core.proofs.world.World.store.Goals as goal

@@ -4,7 +4,7 @@ use Rattle.mm_base.specs.declared.receipt.Receipt.{Receipt}
 use Rattle.mm_base.specs.Room.{RoomState}
 use Rattle.comm_core.specs.Processor.{next_action, MayTake}
 use Rattle.comm_core.specs.TransitionsInside.{lane_at, lane_answered, turns}
-use Rattle.comm_core.specs.World.{LaneState, WorldState}
+use Rattle.comm_core.specs.WorldState.{LaneState, WorldState}
 use Rattle.comm_core.specs.declared.trace.Trace.{Trace}
 use Rattle.comm_core.specs.declared.trace.Trace.TheVariants.{Turned}
 use Rattle.comm_core.proofs.LaneLemmas.{read_there}

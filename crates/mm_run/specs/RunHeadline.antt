@@ -1,0 +1,63 @@
+-- The headline of a run that drove a world through a script.
+use Rattle.std.specs.Prelude.{◌≡◌, ℕ, List, Some, None}
+use Rattle.std.specs.declared.option.Option.{Option}
+use Rattle.comm_core.specs.Capture.{trace_of, pieces, pieces_in}
+use Rattle.comm_core.specs.WorldHeadline.{lane_values, HasHeadline}
+use Rattle.comm_core.specs.WorldPast.{StandsForEvents}
+use Rattle.comm_core.specs.WorldState.{WorldState}
+use Rattle.comm_core.specs.declared.script.Script.{Script}
+use Rattle.mm_core.specs.CoreState.{CoreState}
+use Rattle.mm_core.specs.EntryStep.{core_step}
+use Rattle.mm_run.specs.Run.{Shows}
+use Rattle.mm_run.specs.ScriptRun.{core_of, past_of, entries_of, lanes_of, run_report, IsTextOf}
+use Rattle.mm_run.specs.Sources.{NamedSource, AllRead}
+use Rattle.mm_run.specs.declared.command.Command.{Command}
+use Rattle.mm_run.specs.declared.command.Command.TheVariants.{Script as ScriptCommand, Check}
+use Rattle.mm_run.specs.declared.status.Status.{Status}
+
+-- This is the script that a command's sources spell, where it drives a world.
+abbrev pub IsScriptOf : Command → List (List ℕ) → Script → Type 0
+IsScriptOf ScriptCommand contents script = IsTextOf contents script
+IsScriptOf Check contents script = ⊥
+
+-- This is the core that its world begins with.
+abbrev pub IsCoreOf : Command → List (List ℕ) → Script → CoreState → Type 0
+IsCoreOf ScriptCommand contents script core = core ≡ core_of script
+IsCoreOf Check contents script core = ⊥
+
+-- A command's sources were read to their ends; they spell this script, and its world begins with this core.
+pub record Drives (command : Command) (sources : List NamedSource) (script : Script) (core : CoreState) : Type 0 where
+  pub contents : List (List ℕ)
+  pub read : AllRead sources contents
+  pub script_is : IsScriptOf command contents script
+  pub core_is : IsCoreOf command contents script core
+
+-- The headline of a run, as far as it goes: the world that is handed out has the headline from the core that the
+-- command's world begins with, and what was written is the report of this world.
+pub record IsHeadlineOf (command : Command) (sources : List NamedSource)
+    (before now : Option (List ℕ)) (status : Status) (world : WorldState CoreState) : Type 0 where
+  pub script : Script
+  pub core : CoreState
+  pub drives : Drives command sources script core
+  pub says : HasHeadline core_step core world
+  pub shown : Shows before now status (run_report world.entries (lane_values world.lanes))
+
+-- The world that is handed out stands for the script's events from that core, so it was driven through every store,
+-- ring and action of the script in order. Its trace and the pieces in it are those of the capture trace, and its
+-- entries and lane words are those that the definitions give for the script.
+pub record StandsForScript (command : Command) (sources : List NamedSource) (world : WorldState CoreState)
+    : Type 0 where
+  pub script : Script
+  pub core : CoreState
+  pub drives : Drives command sources script core
+  pub stands : StandsForEvents core_step core script.events world
+  pub words : world.words ≡ script.words
+  pub trace : world.trace ≡ trace_of (past_of core script)
+  pub pieces_are : (lane : ℕ) → pieces_in lane world.trace ≡ pieces lane (past_of core script)
+  pub entries : world.entries ≡ entries_of core script
+  pub lanes : lane_values world.lanes ≡ lanes_of core script
+
+-- there is a world, and this holds of it
+abbrev pub OfWorld : (WorldState CoreState → Type 0) → Option (WorldState CoreState) → Type 0
+OfWorld Holds None = ⊥
+OfWorld Holds (Some world) = Holds world
