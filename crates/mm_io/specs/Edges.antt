@@ -1,6 +1,6 @@
 -- What contracts see of a reader as a source and of a writer as a sink, and what these make of an answer.
-use Rattle.std.specs.Prelude.{◌≡◌, ℕ, ◌≤◌, List, length, take, None, Some, Result, Ok, Err}
-use Rattle.std.specs.Io.KnownBytes.{Appends as KnownGrow}
+use Rattle.std.specs.Prelude.{ℕ, ◌≤◌, List, length, take, Some, Result, Ok, Err}
+use Rattle.std.specs.Io.KnownBytes.{Appends}
 use Rattle.std.specs.declared.io.Error.{Error}
 use Rattle.std.specs.declared.option.Option.{Option}
 use Rattle.mm_io.specs.Memory.{one_more}
@@ -27,6 +27,10 @@ abbrev pub faults_after : Faults → Result ℕ Error → Faults
 faults_after faults (Ok count) = faults
 faults_after faults (Err error) = record { count = one_more faults.count; last = Some error }
 
--- the known bytes of a writer grew by a front of these bytes, which may be none or all of them
+-- what the writer is known to hold grew by the first n of these bytes
+abbrev pub GrowsBy : Option (List ℕ) → Option (List ℕ) → List ℕ → ℕ → Type 0
+GrowsBy before now bytes n = Appends before now (take n bytes)
+
+-- it grew by a front of these bytes, which may be none or all of them
 abbrev pub GrowsByFront : Option (List ℕ) → Option (List ℕ) → List ℕ → Type 0
-GrowsByFront before now bytes = (n : ℕ) × (n ≤ length bytes) × KnownGrow before now (take n bytes)
+GrowsByFront before now bytes = (n : ℕ) × (n ≤ length bytes) × GrowsBy before now bytes n

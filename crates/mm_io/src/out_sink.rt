@@ -1,8 +1,7 @@
 //! A writer as a sink: the edge where the system is trusted.
-ghost use Rattle.std.specs.Prelude.{◌≡◌, ◌≤◌, length, take, IfOk, OnOk, OnErr, IsSome};
-ghost use Rattle.std.specs.Io.KnownBytes.{Appends as KnownGrow};
+ghost use Rattle.std.specs.Prelude.{◌≡◌, ◌≤◌, length, IfOk, OnOk, OnErr, IsSome};
 ghost use Rattle.mm_io.specs.Causes.{HasCause};
-ghost use Rattle.mm_io.specs.Edges.{GrowsByFront};
+ghost use Rattle.mm_io.specs.Edges.{GrowsBy, GrowsByFront};
 ghost use Rattle.mm_io.specs.Memory.{one_more};
 ghost use Rattle.mm_io.specs.Streams.{IsNothing};
 
@@ -62,7 +61,7 @@ impl<W: Write> Sink for OutSink<W> {
         ensures cause { HasCause self.old.faults.count self.new.faults.count result }
 
         // What was taken is what the writer has more; where a flush failed, it may have taken some.
-        ensures appends { IfOk result (λ n. KnownGrow (W.contents self.old.writer) (W.contents self.new.writer) (take n bytes.now)) }
+        ensures appends { IfOk result (GrowsBy (W.contents self.old.writer) (W.contents self.new.writer) bytes.now) }
         ensures front { OnErr result (GrowsByFront (W.contents self.old.writer) (W.contents self.new.writer) bytes.now) }
 
         // An error is the writer's, and is kept and counted.
@@ -83,7 +82,7 @@ impl<W: Write> Sink for OutSink<W> {
 fn written_through<W: Write>(out: &mut W, bytes: &[u8]) -> io::Result<usize>
     ensures within { IfOk result (λ n. n ≤ length bytes.now) }
     ensures nothing { IsNothing result bytes.now → ⊥ }
-    ensures appends { IfOk result (λ n. KnownGrow (W.contents out.old) (W.contents out.new) (take n bytes.now)) }
+    ensures appends { IfOk result (GrowsBy (W.contents out.old) (W.contents out.new) bytes.now) }
     ensures front { OnErr result (GrowsByFront (W.contents out.old) (W.contents out.new) bytes.now) }
 {
     let count = out.write(bytes)?;
