@@ -94,7 +94,17 @@ for form in 'serve V' 'serve V S' 'boot V' 'live V W' 'gen 0' 'gen 10' 'convert 
     # shellcheck disable=SC2086
     ends 1 - "$usage" "$program" $form
 done
-ends 1 - "$usage" "$program" script "$(printf '\377')"
+ends 1 - "mm_main: word 2 of the command line isn't UTF-8" "$program" script "$(printf '\377')"
+ends 1 - "mm_main: word 1 of the command line isn't UTF-8" "$program" "$(printf 's\300')" version.script
+ends 1 - "mm_main: word 3 of the command line isn't UTF-8" "$program" script "$(head -c 5000 /dev/zero | tr '\0' x)" "$(printf '\355\240\200')"
+
+# A pipe that nobody writes to: its opening would not return, and no form that isn't served opens what its words name.
+mkfifo pipe
+ends 1 - "$usage" timeout 5 "$program" Script pipe
+ends 1 - "$usage" timeout 5 "$program" script pipe more
+ends 1 - "$usage" timeout 5 "$program" script version.script pipe
+ends 1 - "$usage" timeout 5 "$program" check pipe pipe
+ends 1 - "$usage" timeout 5 "$program" pipe
 
 # damaged BYTES PLACE WHY EDIT..: the first so many bytes of the sample volume, with these edits, are refused at this place.
 damaged() {
@@ -131,22 +141,36 @@ refused 'lanes 1 4\nwait 0\n' 2 'its first word begins no line: a line is lanes,
 refused 'ring 0\n' 1 'it may not stand here: lanes stands first and once, cell and handler before all that happens'
 refused 'lanes 1 4\n\nring\n' 3 "it has too many or too few words, or one that such a line doesn't know"
 refused 'lanes 1 4\r\n' 1 "one of its words can't be read as the number, bytes or GUID that stand there"
-refused 'lanes 1 4\npoke 0 6 1' 2 "a number is out of its range, or names what isn't there"
+range="a number is out of its range or names what isn't there, there are more bytes than the lane holds, a register is named twice, or it is a handler line past the 64th or a ring line past the 8192nd"
+refused 'lanes 1 4\npoke 0 6 1' 2 "$range"
+refused 'lanes 1 3\nfill 0 00112233445566778899aabbccddeeff001122334455667788' 2 "$range"
+refused 'lanes 1 4\nring 0 3=1 3=1' 2 "$range"
+refused "lanes 1 4\n$(printf 'handler root 0\\n%.0s' $(seq 65))" 66 "$range"
 refused '' 1 'the script has no line that says anything'
 
-ends 4 - 'mm_main: "nowhere.script" could not be opened or read' "$program" script nowhere.script
-ends 4 - 'mm_main: "" could not be opened or read' "$program" script ''
+not_read='could not be opened or read'
+not_there='No such file or directory (os error 2)'
+ends 4 - "mm_main: \"nowhere.script\" $not_read: $not_there" "$program" script nowhere.script
+ends 4 - "mm_main: \"\" $not_read: $not_there" "$program" script ''
 mkdir folder.script
-ends 4 - 'mm_main: "folder.script" could not be opened or read' "$program" script folder.script
+ends 4 - "mm_main: \"folder.script\" $not_read: Is a directory (os error 21)" "$program" script folder.script
 
-ends 4 - 'mm_main: "nowhere.fd" could not be opened or read' "$program" check nowhere.fd
-ends 4 - 'mm_main: "" could not be opened or read' "$program" check ''
+ends 4 - "mm_main: \"nowhere.fd\" $not_read: $not_there" "$program" check nowhere.fd
+ends 4 - "mm_main: \"\" $not_read: $not_there" "$program" check ''
 mkdir folder.fd
-ends 4 - 'mm_main: "folder.fd" could not be opened or read' "$program" check folder.fd
+ends 4 - "mm_main: \"folder.fd\" $not_read: Is a directory (os error 21)" "$program" check folder.fd
+
+# A file that may not be read; root may read each.
+if [ "$(id -u)" != 0 ]; then
+    cp version.script closed.script
+    chmod 000 closed.script
+    ends 4 - "mm_main: \"closed.script\" $not_read: Permission denied (os error 13)" "$program" script closed.script
+    ends 4 - "mm_main: \"closed.script\" $not_read: Permission denied (os error 13)" "$program" check closed.script
+fi
 
 if [ -e /dev/full ]; then
-    ends 5 - 'mm_main: standard output could not be written' full "$program" script version.script
-    ends 5 - 'mm_main: standard output could not be written' full "$program" check sample.fd
+    ends 5 - 'mm_main: standard output could not be written: No space left on device (os error 28)' full "$program" script version.script
+    ends 5 - 'mm_main: standard output could not be written: No space left on device (os error 28)' full "$program" check sample.fd
 fi
 
 head -c 4194305 /dev/zero | tr '\0' '\n' > long.script

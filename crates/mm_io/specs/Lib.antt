@@ -1,3 +1,4 @@
 pub mod Causes
+pub mod Edges
 pub mod Streams
 pub mod Memory

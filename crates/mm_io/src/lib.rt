@@ -3,7 +3,9 @@
 #![tactic(auto)]
 
 mod failed;
+mod faults;
 mod file_source;
+mod late_file;
 mod memory_sink;
 mod memory_source;
 mod out_sink;
@@ -17,6 +19,7 @@ mod writing;
 
 pub use failed::Failed;
 pub use file_source::FileSource;
+pub use late_file::LateFile;
 pub use memory_sink::MemorySink;
 pub use memory_source::MemorySource;
 pub use out_sink::OutSink;

@@ -6,6 +6,7 @@ use crate::{
 };
 use mm_base::{Bytes, List, NoMemory};
 use std::alloc::Global;
+use std::io::{Read, Write};
 use std::test::Fail;
 use std::{fs, io};
 
@@ -99,11 +100,50 @@ fn writes_all(rt: HostRuntime) -> Result<(), Fail> {
     Ok(())
 }
 
+/// A reader that gives its bytes, and then errors in place of its end.
+#[derive(Drop)]
+struct Torn<'a> {
+    bytes: &'a [u8],
+}
+
+impl Read for Torn<'_> {
+    fn read(&mut self, buf: &mut [u8]) -> io::Result<usize> {
+        if self.bytes.is_empty() {
+            return Err(io::Error::from(io::ErrorKind::ConnectionReset));
+        }
+        self.bytes.read(buf)
+    }
+}
+
+fn is_kind(error: Option<io::Error>, kind: io::ErrorKind) -> bool {
+    match error {
+        Some(error) => error.kind() == kind,
+        None => false,
+    }
+}
+
+#[test]
+fn a_reader_is_read(rt: HostRuntime) {
+    let mut source = FileSource::new(TEN);
+    assert!(rt; is_ten(&read_all(rt.alloc(), &mut source, 10)));
+    assert!(rt; source.last_error().is_none());
+}
+
+#[test]
+fn an_error_is_no_end(rt: HostRuntime) {
+    let mut source = FileSource::new(Torn { bytes: TEN });
+    let read = read_all(rt.alloc(), &mut source, 10);
+    assert_eq!(rt; end_of(&read), Some(ReadEnd::Failed));
+    assert_eq!(rt; source.faults(), 1);
+    assert!(rt; is_kind(source.last_error(), io::ErrorKind::ConnectionReset));
+}
+
 #[test]
 fn a_file_is_read(rt: HostRuntime) -> Result<(), Fail> {
     let alloc = rt.alloc();
+    let mut source = FileSource::named(&rt, "ten");
+    // It is there only now: what isn't read isn't opened.
     fs::write(&rt, "ten", TEN)?;
-    let mut source = FileSource::open(&rt, "ten");
     assert!(rt; is_ten(&read_all(alloc, &mut source, 10)));
     assert_eq!(rt; source.faults(), 0);
     Ok(())
@@ -112,10 +152,11 @@ fn a_file_is_read(rt: HostRuntime) -> Result<(), Fail> {
 #[test]
 fn no_file_is_a_fault(rt: HostRuntime) -> Result<(), Fail> {
     let alloc = rt.alloc();
-    let mut source = FileSource::open(&rt, "none");
+    let mut source = FileSource::named(&rt, "none");
     let mut buf = [0; 4];
     assert_eq!(rt; source.read(&mut buf), Err(Failed));
     assert_eq!(rt; source.faults(), 1);
+    assert!(rt; is_kind(source.last_error(), io::ErrorKind::NotFound));
     assert_eq!(rt;
         end_of(&read_all(alloc, &mut source, 10)),
         Some(ReadEnd::Failed)
@@ -125,8 +166,58 @@ fn no_file_is_a_fault(rt: HostRuntime) -> Result<(), Fail> {
 }
 
 #[test]
+fn a_folder_is_a_fault(rt: HostRuntime) -> Result<(), Fail> {
+    fs::create_dir(&rt, "folder")?;
+    let mut source = FileSource::named(&rt, "folder");
+    let mut buf = [0; 4];
+    assert_eq!(rt; source.read(&mut buf), Err(Failed));
+    assert!(rt; is_kind(source.last_error(), io::ErrorKind::IsADirectory));
+    Ok(())
+}
+
+#[test]
 fn writes_out(rt: HostRuntime) {
     let mut sink = OutSink::new(io::writer(&rt));
     assert_eq!(rt; write_all(&mut sink, b"out\n"), Ok(()));
     assert_eq!(rt; sink.faults(), 0);
+    assert!(rt; sink.last_error().is_none());
+}
+
+/// A writer that takes some bytes a call, and whose flushes may fail.
+#[derive(Drop)]
+struct Narrow {
+    most: usize,
+    flushes: bool,
+}
+
+impl Write for Narrow {
+    fn write(&mut self, buf: &[u8]) -> io::Result<usize> {
+        Ok(buf.len().min(self.most))
+    }
+
+    fn flush(&mut self) -> io::Result<()> {
+        if self.flushes {
+            Ok(())
+        } else {
+            Err(io::Error::from(io::ErrorKind::BrokenPipe))
+        }
+    }
+}
+
+// The most a call, whether flushes succeed; what one write of forty bytes answers, and the kind of the error that is kept.
+const ANSWERS: [(usize, bool, Result<usize, Failed>, Option<io::ErrorKind>); 4] = [
+    (40, true, Ok(40), None),
+    (7, true, Ok(7), None),
+    (0, true, Err(Failed), Some(io::ErrorKind::WriteZero)),
+    (7, false, Err(Failed), Some(io::ErrorKind::BrokenPipe)),
+];
+
+#[test]
+fn tells_what_a_writer_took(rt: HostRuntime) {
+    for (most, flushes, answer, kind) in ANSWERS {
+        let mut sink = OutSink::new(Narrow { most, flushes });
+        assert_eq!(rt; sink.write(FORTY), answer, "at {most}, {flushes}");
+        let kept = sink.last_error().map(|error| error.kind());
+        assert_eq!(rt; kept, kind, "at {most}, {flushes}");
+    }
 }

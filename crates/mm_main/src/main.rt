@@ -2,10 +2,13 @@
 //! never judges a script or a volume itself.
 #![tactic(auto)]
 
+mod cause;
 mod fault;
+mod reasons;
 mod stopped;
 
-use fault::Fault;
+use cause::Cause;
+use fault::{Fault, RunFacts, SourceFacts};
 use mm_io::{FileSource, OutSink};
 use mm_run::{command_of, run};
 use std::io;
@@ -17,15 +20,20 @@ fn main(rt: HostRuntime) -> ExitCode {
         Ok(words) => words,
         Err(stopped) => return ended(&rt, Some(stopped.fault()), stopped.number()),
     };
-    let command = command_of(words.as_slice());
     let first_name = word(&words, 1);
     let second_name = word(&words, 2);
-    let mut first = FileSource::open(&rt, first_name);
-    let mut second = FileSource::open(&rt, second_name);
+    // Neither file is opened before the top call reads it.
+    let mut first = FileSource::named(&rt, first_name);
+    let mut second = FileSource::named(&rt, second_name);
     let mut out = OutSink::new(io::writer(&rt));
     let end = run(rt.alloc(), &words, &mut first, &mut second, &mut out);
-    let fault = Fault::of(end.status, command, first_name, second_name);
-    ended(&rt, fault, end.status.number())
+    let facts = RunFacts {
+        command: command_of(words.as_slice()),
+        first: SourceFacts::new(first_name, first.last_error()),
+        second: SourceFacts::new(second_name, second.last_error()),
+        out: Cause(out.last_error()),
+    };
+    ended(&rt, Fault::of(end.status, &facts), end.status.number())
 }
 
 /// A word of the command line; empty, which names no file, where there is none.

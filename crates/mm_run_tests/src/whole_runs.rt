@@ -345,8 +345,8 @@ fn a_front_is_written(rt: HostRuntime) -> Result<(), Fail> {
 fn a_file_that_is_not_there(rt: HostRuntime) -> Result<(), Fail> {
     let alloc = rt.alloc();
     let words = script_words(alloc)?;
-    let mut first = FileSource::open(&rt, "version.script");
-    let mut second = FileSource::open(&rt, "");
+    let mut first = FileSource::named(&rt, "version.script");
+    let mut second = FileSource::named(&rt, "");
     let mut out = sink(alloc, 16, &[])?;
     let end = run(alloc, &words, &mut first, &mut second, &mut out);
     assert_eq!(rt; end.status, Status::ReadFault(Which::First));

@@ -1,16 +1,33 @@
 //! What is said of a status.
 use super::*;
 use crate::stopped::Stopped;
-use mm_base::NoMemory;
+use mm_base::{NoMemory, PolicyKind, VolumeKind};
 use std::alloc::Global;
 use std::test::Fail;
 
-/// What is said of a status, where the words are this command, `one` and `two`; nothing where all went well.
-fn said(alloc: Global, command: Option<Command>, status: Status) -> Result<String, NoMemory> {
-    match Fault::of(status, command, "one", "two") {
+/// What is said of a status, where the sources are `one` and `two`, and the system's last error was this; nothing where all went
+/// well.
+fn said_of(
+    alloc: Global,
+    command: Option<Command>,
+    error: Option<io::Error>,
+    status: Status,
+) -> Result<String, NoMemory> {
+    let facts = RunFacts {
+        command,
+        first: SourceFacts::new("one", error),
+        second: SourceFacts::new("two", error),
+        out: Cause(error),
+    };
+    match Fault::of(status, &facts) {
         None => Ok(String::new(alloc)),
         Some(fault) => Ok(format!(in alloc; "{fault}")?),
     }
+}
+
+/// What is said of a status without an error of the system.
+fn said(alloc: Global, command: Option<Command>, status: Status) -> Result<String, NoMemory> {
+    said_of(alloc, command, None, status)
 }
 
 /// What is said of a growth that is refused: no memory has so many bytes.
@@ -61,7 +78,7 @@ fn names_what_was_refused(rt: HostRuntime) -> Result<(), Fail> {
                 line: 7,
                 kind: TextKind::Range,
             },
-            "\"one\", line 7: a number is out of its range, or names what isn't there",
+            "\"one\", line 7: a number is out of its range or names what isn't there, there are more bytes than the lane holds, a register is named twice, or it is a handler line past the 64th or a ring line past the 8192nd",
         ),
         (
             Some(Command::Check),
@@ -85,13 +102,55 @@ fn names_what_was_refused(rt: HostRuntime) -> Result<(), Fail> {
 }
 
 #[test]
+fn tells_what_the_system_says(rt: HostRuntime) -> Result<(), Fail> {
+    let expected = [
+        (
+            Status::ReadFault(Which::First),
+            "\"one\" could not be opened or read: No such file or directory (os error 2)",
+        ),
+        (
+            Status::ReadFault(Which::Second),
+            "\"two\" could not be opened or read: No such file or directory (os error 2)",
+        ),
+        (
+            Status::WriteFault,
+            "standard output could not be written: No such file or directory (os error 2)",
+        ),
+    ];
+    let error = io::Error::from_raw_os_error(2);
+    for (status, text) in expected {
+        let line = said_of(rt.alloc(), Some(Command::Script), Some(error), status)?;
+        assert_eq!(rt; line.as_str(), text);
+    }
+    Ok(())
+}
+
+#[test]
+fn names_no_handler_lines_where_none_are(rt: HostRuntime) {
+    let expected = [
+        (
+            TextKind::Unknown,
+            "its first word begins no line: a line is lanes, cell, poke, fill, ring, step or run",
+        ),
+        (
+            TextKind::Order,
+            "it may not stand here: lanes stands first and once, cell before all that happens",
+        ),
+        (
+            TextKind::Range,
+            "a number is out of its range or names what isn't there, there are more bytes than the lane holds, a register is named twice, or it is a ring line past the 8192nd",
+        ),
+    ];
+    for (kind, text) in expected {
+        assert_eq!(rt; why_no_script(kind, false), text);
+    }
+}
+
+#[test]
 fn names_what_stops_it_early(rt: HostRuntime) -> Result<(), Fail> {
     let alloc = rt.alloc();
     let expected = [
-        (
-            Stopped::NoText,
-            "usage: mm_main script FILE, or mm_main check FILE",
-        ),
+        (Stopped::NoText(2), "word 2 of the command line isn't UTF-8"),
         (Stopped::NoMemory, "memory was refused"),
     ];
     for (stopped, text) in expected {
