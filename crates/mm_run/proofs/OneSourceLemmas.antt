@@ -9,13 +9,13 @@ use Rattle.mm_core.specs.EntryStep.{core_step}
 use Rattle.mm_core.specs.MachineLemmas.{core_step-within}
 use Rattle.mm_run.specs.RunHeadline.{StandsForScript}
 use Rattle.mm_run.specs.SourceKinds.{most_of, IsGoodAs}
-use Rattle.mm_run.specs.Sources.{NamedSource, sources_named, HasFailed, WasRead, StopsAt, Wanting, Stops, AllRead, HoldsGood, AllHoldGood, HoldsFault, FaultHeld, FirstBad, OthersAreUntouched}
+use Rattle.mm_run.specs.Sources.{NamedSource, sources_named, HasFailed, WasRead, StopsRun, Wanting, RunStops, AllRead, HoldsGood, AllHoldGood, HoldsFault, FaultHeld, FirstBad, OthersAreUntouched}
 use Rattle.mm_run.specs.declared.command.Command.{Command}
 use Rattle.mm_run.specs.declared.command.Command.TheVariants.{Script, Check}
 use Rattle.mm_run.specs.declared.status.Status.{Status}
 
 -- a run stops at its one source; where memory was refused in the run itself, at most as many bytes came as may
-pub one_stop : (s : NamedSource) (RestIsUntouched : Type 0) (status : Status) → Stops (s ∷ []) RestIsUntouched status → StopsAt s status
+pub one_stop : (s : NamedSource) (RestIsUntouched : Type 0) (status : Status) → RunStops (s ∷ []) RestIsUntouched status → StopsRun s status
 one_stop s RestIsUntouched status (inl stop) = stop.0
 one_stop s RestIsUntouched status (inr made) = Wanting (made.0.bytes, made.0.read.within, made.0.read.gives) made.1
 

@@ -26,10 +26,10 @@ use Rattle.volume_policy.proofs.Offered.{never_policy_and_fault, one_policy_faul
 use Rattle.mm_run.specs.Command.{command_of, drives}
 use Rattle.mm_run.specs.Run.{IsReport, Reports, Shows, Whole, Front}
 use Rattle.mm_run.specs.RunHeadline.{Drives, IsHeadlineOf, StandsForScript, OfWorld}
-use Rattle.mm_run.specs.RunInside.{kind_of, one_source, IsMadeOfScript, IsMadeOf, IsMade, RefusesBytes}
+use Rattle.mm_run.specs.RunInside.{one_kind, one_source, IsMadeOfScript, IsMadeOf, IsMade, RefusesBytes}
 use Rattle.mm_run.specs.ScriptRun.{core_of, past_of, lanes_of, run_report, report_for}
 use Rattle.mm_run.specs.SourceKinds.{most_of, IsGoodAs, IsFaultyAs}
-use Rattle.mm_run.specs.Sources.{Seen, NamedSource, sources, sources_of, sources_named, HasFailed, WasRead, WasGood, StopsAt, Unreadable, Long, Faulty, Wanting, Stops, AllRead, HoldsGood, AllHoldGood, HoldsFault, HoldsBad, FaultHeld, TooMuchHeld, FirstBad, OthersAreUntouched}
+use Rattle.mm_run.specs.Sources.{Seen, NamedSource, sources, sources_of, sources_named, HasFailed, WasRead, WasGood, StopsRun, Unreadable, Long, Faulty, Wanting, RunStops, AllRead, HoldsGood, AllHoldGood, HoldsFault, HoldsBad, FaultHeld, TooMuchHeld, FirstBad, OthersAreUntouched}
 use Rattle.mm_run.specs.Status.{writes}
 use Rattle.mm_run.specs.declared.command.Command.{Command}
 use Rattle.mm_run.specs.declared.command.Command.TheVariants.{Script as ScriptCommand, Check}
@@ -87,7 +87,7 @@ fault_not_usage VolumeBytes bytes status (inr bad) e =
     let u : BadVolume bad.fault.at (PolicyIsBad bad.fault.kind) ≡ Usage = sym bad.status_is ∙ e in cc
 
 -- what was made of bytes was made of good ones, and its text is their report
-made_good : (command : Command) (bytes : List ℕ) (made : Made) → IsMadeOf command bytes made → IsGoodAs (kind_of command) bytes
+made_good : (command : Command) (bytes : List ℕ) (made : Made) → IsMadeOf command bytes made → IsGoodAs (one_kind command) bytes
 made_good ScriptCommand bytes made of = record { script = of.script; is = of.says }
 made_good Check bytes made of =
     record { volume = of.report.volume; is = of.report.is; policy = of.report.policy; policy_is = of.report.policy_is }
@@ -142,7 +142,7 @@ not_too_much most (Some left) now given all more =
     omega (arith, more, all.within, ap length (given_all most (Some left) now left given refl all))
 
 -- a refusal by bytes is one of the source that gave them
-refused_bytes : (s : NamedSource) (bytes : List ℕ) (status : Status) → WasRead s bytes → RefusesBytes s.kind bytes status → StopsAt s status
+refused_bytes : (s : NamedSource) (bytes : List ℕ) (status : Status) → WasRead s bytes → RefusesBytes s.kind bytes status → StopsRun s status
 refused_bytes s bytes status read (inl faulty) = Faulty bytes read faulty
 refused_bytes s bytes status read (inr wanting) = Wanting (bytes, read.within, read.gives) wanting
 
@@ -150,7 +150,7 @@ pub refused_by_bytes : (s : NamedSource) (bytes told : List ℕ) (result : Resul
     → WasRead s bytes
     → told ≡ bytes
     → IfErr result (RefusesBytes s.kind told)
-    → IfErr result (StopsAt s)
+    → IfErr result (StopsRun s)
 refused_by_bytes s bytes told (Ok made) read same r = tt
 refused_by_bytes s bytes told (Err status) read same r =
     let P : List ℕ → Type 0 = λ bytes. RefusesBytes s.kind bytes status in
@@ -159,20 +159,20 @@ refused_by_bytes s bytes told (Err status) read same r =
 -- ---- how a source stops a run
 
 -- no refusal writes, and none is of the words
-pub stop_writes_nothing : (s : NamedSource) (status : Status) → StopsAt s status → writes status ≡ false
+pub stop_writes_nothing : (s : NamedSource) (status : Status) → StopsRun s status → writes status ≡ false
 stop_writes_nothing s status (Unreadable risen most is) = ap writes is
 stop_writes_nothing s status (Long more is) = ap writes is
 stop_writes_nothing s status (Faulty bytes read faulty) = fault_writes_nothing s.kind bytes status faulty
 stop_writes_nothing s status (Wanting most is) = ap writes is
 
-pub stop_not_usage : (s : NamedSource) (status : Status) → StopsAt s status → status ≡ Usage → ⊥
+pub stop_not_usage : (s : NamedSource) (status : Status) → StopsRun s status → status ≡ Usage → ⊥
 stop_not_usage s status (Unreadable risen most is) e = let u : ReadFault s.which ≡ Usage = sym is ∙ e in cc
 stop_not_usage s status (Long more is) e = let u : TooLong s.which ≡ Usage = sym is ∙ e in cc
 stop_not_usage s status (Faulty bytes read faulty) e = fault_not_usage s.kind bytes status faulty e
 stop_not_usage s status (Wanting most is) e = let u : NoMemory out_of_memory ≡ Usage = sym is ∙ e in cc
 
 -- good bytes that can be read stop a run out of memory alone
-stop_good : (s : NamedSource) (status : Status) → StopsAt s status → HoldsGood s → status ≡ NoMemory out_of_memory
+stop_good : (s : NamedSource) (status : Status) → StopsRun s status → HoldsGood s → status ≡ NoMemory out_of_memory
 stop_good s status (Unreadable risen most is) h = absurd (h.calm risen)
 stop_good s status (Long more is) h = absurd (not_long (most_of s.kind) s.seen.before s.seen.now h.bytes h.told h.within more)
 stop_good s status (Faulty bytes read faulty) h =
@@ -183,7 +183,7 @@ stop_good s status (Wanting most is) h = is
 
 -- what is to be refused stops a run for that, or out of memory
 stop_fault : (s : NamedSource) (status fault : Status)
-    → StopsAt s status
+    → StopsRun s status
     → (HasFailed s → ⊥)
     → HoldsFault s fault
     → (status ≡ fault) ⊎ (status ≡ NoMemory out_of_memory)
@@ -197,7 +197,7 @@ stop_fault s status fault (Faulty bytes read faulty) calm h =
 stop_fault s status fault (Wanting most is) calm h = inr is
 
 stop_too_much : (s : NamedSource) (status fault : Status)
-    → StopsAt s status
+    → StopsRun s status
     → (HasFailed s → ⊥)
     → HasMoreThan (most_of s.kind) s.seen.before
     → fault ≡ TooLong s.which
@@ -209,7 +209,7 @@ stop_too_much s status fault (Faulty bytes read faulty) calm much e =
 stop_too_much s status fault (Wanting most is) calm much e = inr is
 
 pub stop_bad : (s : NamedSource) (status fault : Status)
-    → StopsAt s status
+    → StopsRun s status
     → HoldsBad s fault
     → (status ≡ fault) ⊎ (status ≡ NoMemory out_of_memory)
 stop_bad s status fault stop (FaultHeld calm held) = stop_fault s status fault stop calm held
@@ -241,12 +241,12 @@ others_untouched ScriptCommand First Second second = second
 others_untouched Check First Second second = second
 
 -- all that holds good stops out of memory alone
-pub stopped_good : (s : NamedSource) (status : Status) → StopsAt s status → AllHoldGood (s ∷ []) → status ≡ NoMemory out_of_memory
+pub stopped_good : (s : NamedSource) (status : Status) → StopsRun s status → AllHoldGood (s ∷ []) → status ≡ NoMemory out_of_memory
 stopped_good s status stop all = stop_good s status stop all.0
 
 -- the first that is to be refused is refused for that
 pub stopped_bad : (s : NamedSource) (status fault : Status)
-    → StopsAt s status
+    → StopsRun s status
     → FirstBad (s ∷ []) fault
     → (status ≡ fault) ⊎ (status ≡ NoMemory out_of_memory)
 stopped_bad s status fault stop (inl bad) = stop_bad s status fault stop bad

@@ -24,13 +24,13 @@ use Rattle.mm_run.specs.declared.status.Status.TheVariants.{NoMemory}
 use Rattle.mm_run.specs.declared.status.Which.TheVariants.{First}
 
 -- the kind of the one source that a command has
-abbrev pub kind_of : Command → SourceKind
-kind_of ScriptCommand = ScriptText
-kind_of Check = VolumeBytes
+abbrev pub one_kind : Command → SourceKind
+one_kind ScriptCommand = ScriptText
+one_kind Check = VolumeBytes
 
 -- that source
 abbrev pub one_source : Command → Seen → NamedSource
-one_source command seen = source First (kind_of command) seen
+one_source command seen = source First (one_kind command) seen
 
 -- A world was driven through a script from this core, and this is its report.
 pub record IsDriven (core : CoreState) (script : Script) (world : WorldState CoreState) (text : List ℕ) : Type 0 where

@@ -28,9 +28,9 @@ sources_named None = []
 sources_named (Some command) = sources_of command
 
 -- the kind of the first or the second of them, if it is there
-abbrev pub kind_at : Which → List SourceKind → Option SourceKind
-kind_at First kinds = slice_get kinds 0
-kind_at Second kinds = slice_get kinds 1
+abbrev pub kind_of_which : Which → List SourceKind → Option SourceKind
+kind_of_which First kinds = slice_get kinds 0
+kind_of_which Second kinds = slice_get kinds 1
 
 -- What is seen of a source: the bytes that it had left before a run and has left now, where it tells them, and its
 -- counts of faults.
@@ -79,21 +79,21 @@ pub record WasGood (s : NamedSource) : Type 0 where
 
 -- Why a source stops a run: it could not be read; it gave more than it may; what was read of it has a fault; or memory
 -- was refused.
-pub data StopsAt (s : NamedSource) (status : Status) : Type 0 where
+pub data StopsRun (s : NamedSource) (status : Status) : Type 0 where
   Unreadable : HasFailed s
       → GivesAtMost (most_of s.kind) s.seen.before s.seen.now
       → status ≡ ReadFault s.which
-      → StopsAt s status
-  Long : GivesMoreThan (most_of s.kind) s.seen.before s.seen.now → status ≡ TooLong s.which → StopsAt s status
-  Faulty : (bytes : List ℕ) → WasRead s bytes → IsFaultyAs s.kind bytes status → StopsAt s status
-  Wanting : GivesAtMost (most_of s.kind) s.seen.before s.seen.now → status ≡ NoMemory out_of_memory → StopsAt s status
+      → StopsRun s status
+  Long : GivesMoreThan (most_of s.kind) s.seen.before s.seen.now → status ≡ TooLong s.which → StopsRun s status
+  Faulty : (bytes : List ℕ) → WasRead s bytes → IsFaultyAs s.kind bytes status → StopsRun s status
+  Wanting : GivesAtMost (most_of s.kind) s.seen.before s.seen.now → status ≡ NoMemory out_of_memory → StopsRun s status
 
 -- How a run stops before it writes: at this source, and what comes after it is untouched; or this source was good, and
 -- the run stops at the rest; or all were good, and memory was refused in the run itself.
-abbrev pub Stops : List NamedSource → Type 0 → Status → Type 0
-Stops [] RestIsUntouched status = status ≡ NoMemory out_of_memory
-Stops (s ∷ rest) RestIsUntouched status =
-    (StopsAt s status × RestIsUntouched) ⊎ (WasGood s × Stops rest (Unit {0}) status)
+abbrev pub RunStops : List NamedSource → Type 0 → Status → Type 0
+RunStops [] RestIsUntouched status = status ≡ NoMemory out_of_memory
+RunStops (s ∷ rest) RestIsUntouched status =
+    (StopsRun s status × RestIsUntouched) ⊎ (WasGood s × RunStops rest (Unit {0}) status)
 
 -- These are the bytes that the sources gave, each read to its end.
 abbrev pub AllRead : List NamedSource → List (List ℕ) → Type 0

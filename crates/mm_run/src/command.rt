@@ -1,7 +1,7 @@
 //! The commands that the program serves.
 ghost use Rattle.std.specs.Prelude.{◌≡◌};
 ghost use Rattle.mm_run.specs.Command.{command_of as command_of_words};
-ghost use Rattle.mm_run.specs.Sources.{sources_of, kind_at};
+ghost use Rattle.mm_run.specs.Sources.{sources_of, kind_of_which};
 
 use crate::source_kind::SourceKind;
 use crate::status::Which;
@@ -18,7 +18,7 @@ pub enum Command {
 impl Command {
     /// The kind of the command's first or second source; None where it has none.
     pub fn source(self, which: Which) -> Option<SourceKind>
-        ensures { result ≡ kind_at which (sources_of self) }
+        ensures { result ≡ kind_of_which which (sources_of self) }
     {
         match (self, which) {
             (Command::Script, Which::First) => Some(SourceKind::ScriptText),

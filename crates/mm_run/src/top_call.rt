@@ -8,7 +8,7 @@ ghost use Rattle.mm_run.specs.Run.{Reports};
 ghost use Rattle.mm_run.specs.RunHeadline.{IsHeadlineOf, StandsForScript, OfWorld};
 ghost use Rattle.mm_run.specs.RunInside.{one_source, IsMade};
 ghost use Rattle.mm_run.specs.Sources.{seen, source as source_of, sources, sources_of, sources_named};
-ghost use Rattle.mm_run.specs.Sources.{Stops, StopsAt, AllHoldGood, FirstBad, OthersAreUntouched, WasRead};
+ghost use Rattle.mm_run.specs.Sources.{RunStops, StopsRun, AllHoldGood, FirstBad, OthersAreUntouched, WasRead};
 ghost use Rattle.mm_run.specs.Status.{writes, has_no_world};
 ghost use Rattle.mm_run.specs.declared.command.Command.{Command as CommandValue};
 ghost use Rattle.mm_run.specs.declared.status.Status.{Status as StatusValue};
@@ -48,21 +48,18 @@ pub fn run<V: Source, S: Source, K: Sink>(
     // is made; the report is written.
     ensures usage { (result.status ≡ Status.Usage) ↔ (command_of_words words.now.items ≡ None) }
     ensures refusal { (command : CommandValue) → command_of_words words.now.items ≡ Some command →
-        writes result.status ≡ false →
-        Stops (sources (sources_of command)
+        writes result.status ≡ false → RunStops (sources (sources_of command)
         (seen V.left V.fault_count first.old first.new) (seen S.left S.fault_count second.old second.new))
         (second.new ≡ second.old) result.status }
     ensures write_fault { result.status ≡ Status.WriteFault → Rose (K.fault_count out.old) (K.fault_count out.new) }
 
     // What is written: the report of the command for what its sources gave, a front of it, or nothing.
     ensures done { (command : CommandValue) → command_of_words words.now.items ≡ Some command →
-        result.status ≡ Status.Done →
-        Reports command (sources (sources_of command)
+        result.status ≡ Status.Done → Reports command (sources (sources_of command)
         (seen V.left V.fault_count first.old first.new) (seen S.left S.fault_count second.old second.new))
         (Appends (K.written out.old) (K.written out.new)) }
     ensures front { (command : CommandValue) → command_of_words words.now.items ≡ Some command →
-        result.status ≡ Status.WriteFault →
-        Reports command (sources (sources_of command)
+        result.status ≡ Status.WriteFault → Reports command (sources (sources_of command)
         (seen V.left V.fault_count first.old first.new) (seen S.left S.fault_count second.old second.new))
         (AppendsFront (K.written out.old) (K.written out.new)) }
     ensures nothing { writes result.status ≡ false → out.new ≡ out.old }
@@ -84,20 +81,15 @@ pub fn run<V: Source, S: Source, K: Sink>(
     // The headline. Whatever the script stores between any two steps, each entry loads each word of its request exactly once,
     // and the replies, statuses and records are the one-thread core's on the captured requests, in recorded order.
     ensures headline { (command : CommandValue) → command_of_words words.now.items ≡ Some command →
-        drives command ≡ true →
-        writes result.status ≡ true →
-        OfWorld
-        (IsHeadlineOf command (sources (sources_of command)
+        drives command ≡ true → writes result.status ≡ true →
+        OfWorld (IsHeadlineOf command (sources (sources_of command)
         (seen V.left V.fault_count first.old first.new) (seen S.left S.fault_count second.old second.new))
-        (K.written out.old) (K.written out.new) result.status)
-        result.world }
+        (K.written out.old) (K.written out.new) result.status) result.world }
 
     // The world that is handed out stands for the script's events from that core.
     ensures stands { (command : CommandValue) → command_of_words words.now.items ≡ Some command →
-        drives command ≡ true →
-        writes result.status ≡ true →
-        OfWorld
-        (StandsForScript command (sources (sources_of command)
+        drives command ≡ true → writes result.status ≡ true →
+        OfWorld (StandsForScript command (sources (sources_of command)
         (seen V.left V.fault_count first.old first.new) (seen S.left S.fault_count second.old second.new)))
         result.world }
     ensures no_world { has_no_world result.status ≡ true → result.world ≡ None }
@@ -128,7 +120,7 @@ fn refused(status: Status) -> RunEnd
 /// Serves a command.
 fn serve<V: Source, K: Sink>(alloc: Global, command: Command, first: &mut V, out: &mut K) -> RunEnd
     ensures refusal { writes result.status ≡ false →
-        StopsAt (one_source command (seen V.left V.fault_count first.old first.new)) result.status }
+        StopsRun (one_source command (seen V.left V.fault_count first.old first.new)) result.status }
     ensures served { result.status ≡ Status.Usage → ⊥ }
     ensures write_fault { result.status ≡ Status.WriteFault → Rose (K.fault_count out.old) (K.fault_count out.new) }
     ensures done { result.status ≡ Status.Done →
@@ -167,7 +159,7 @@ fn serve<V: Source, K: Sink>(alloc: Global, command: Command, first: &mut V, out
 /// Reads the command's source, and makes of it what the command says.
 fn make<V: Source>(alloc: Global, command: Command, first: &mut V) -> Result<Made, Status>
     ensures ok { IfOk result (IsMade command (seen V.left V.fault_count first.old first.new)) }
-    ensures err { IfErr result (StopsAt (one_source command (seen V.left V.fault_count first.old first.new))) }
+    ensures err { IfErr result (StopsRun (one_source command (seen V.left V.fault_count first.old first.new))) }
 {
     match command {
         Command::Script => {
@@ -189,7 +181,7 @@ fn read<S: Source>(
     source: &mut S,
 ) -> Result<Bytes, Status>
     ensures ok { IfOk result (WasRead (source_of which kind (seen S.left S.fault_count source.old source.new))) }
-    ensures err { IfErr result (StopsAt (source_of which kind (seen S.left S.fault_count source.old source.new))) }
+    ensures err { IfErr result (StopsRun (source_of which kind (seen S.left S.fault_count source.old source.new))) }
 {
     match read_all(alloc, source, kind.most_bytes()) {
         Ok(bytes) => Ok(bytes),

@@ -6,7 +6,7 @@ use Rattle.mm_io.specs.Streams.{Appends, AppendsFront}
 use Rattle.mm_run.specs.Command.{drives}
 use Rattle.mm_run.specs.Run.{Reports}
 use Rattle.mm_run.specs.RunHeadline.{IsHeadlineOf, StandsForScript, OfWorld}
-use Rattle.mm_run.specs.Sources.{NamedSource, Stops, AllHoldGood, FirstBad}
+use Rattle.mm_run.specs.Sources.{NamedSource, RunStops, AllHoldGood, FirstBad}
 use Rattle.mm_run.specs.declared.command.Command.{Command}
 use Rattle.mm_run.specs.declared.status.Status.TheVariants.{Done, NoMemory}
 use Rattle.mm_run.proofs.RunLemmas.{of_command, served_all, untouched_by_command, untouched_by_none}
@@ -15,7 +15,7 @@ use Rattle.mm_run.proofs.top_call.run.Goals as goal
 pub returns-in-Some-clause-refusal : goal.returns-in-Some-clause-refusal
 returns-in-Some-clause-refusal g c = λ command form wrote.
     let P : Command → List NamedSource → Type 0 = λ command all.
-    Stops all (c.args.second.now ≡ c.args.second.now) c.serve.result.status in
+    RunStops all (c.args.second.now ≡ c.args.second.now) c.serve.result.status in
     served_all P c.args.words.now.items c.as_slice.result.now c.in-Some.command command _ _ c.in-Some.ensures
     c.as_slice.ensures.value form (inl (c.serve.ensures.refusal wrote, refl))
 
