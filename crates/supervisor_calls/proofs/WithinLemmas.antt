@@ -19,6 +19,7 @@ use Rattle.mm_base.specs.declared.guid.Guid.{Guid}
 use Rattle.mm_base.specs.declared.region.Region.{Region}
 use Rattle.mm_memory.proofs.PageLemmas.{length-zeros}
 use Rattle.mmi_registry.specs.Registry.{RegistryState}
+use Rattle.platform_model.specs.Cells.{PlatformState}
 use Rattle.pool_tree.specs.Pool.{Block}
 use Rattle.protocol_db.specs.ProtocolDb.{DbState}
 use Rattle.secure_policy.specs.Laws.{passes}
@@ -61,14 +62,11 @@ pub record SameLive (image : ℕ) (region : Region) (old new : Live) : Type 0 wh
 same_memory : (region : Region) (memory : List ℕ) → SameOutside region memory memory
 same_memory region memory = record { bytes = refl; size = refl }
 
-same_live : (image : ℕ) (region : Region) (live : Live) → SameLive image region live live
-same_live image region live = record {
-  memory = same_memory region live.memory;
-  pools = refl;
-  pool_count = refl;
-  reserves = refl;
-  reserve_count = refl;
-}
+-- other cells, and other memory in the region
+put_live : (image : ℕ) (region : Region) (live : Live) (platform : PlatformState) (memory : List ℕ) → SameOutside region live.memory memory
+    → SameLive image region live (record live { memory = memory; platform = platform })
+put_live image region live platform memory same =
+    record { memory = same; pools = refl; pool_count = refl; reserves = refl; reserve_count = refl }
 
 -- a write that has its quota passes
 quota_passes : (kind : Kind) (at : ℕ) (records : RecordsState) (verdict : Verdict)
@@ -118,8 +116,14 @@ module _ (before after : DomainState) (within : StaysWithin before after) where
         };
       }
 
+  cells_put : (platform : PlatformState)
+      → SameLive after.image (region_in after) after.tables.live (record after.tables.live { platform = platform })
+  cells_put platform =
+      let live : Live = after.tables.live in
+      put_live after.image (region_in after) live platform live.memory (same_memory (region_in after) live.memory)
+
   pub records_within : (records : RecordsState) → Stays (acted after (record { live = after.tables.live; records = records }))
-  records_within records = live_within after.tables.live records (same_live after.image (region_in after) after.tables.live)
+  records_within records = live_within after.tables.live records (cells_put after.tables.live.platform)
 
   pub pool_within : (pool : List Block) → Stays (with_pool pool after)
   pool_within pool =
@@ -257,41 +261,19 @@ module _ (before after : DomainState) (within : StaysWithin before after) where
           (if device
           then record live { platform = record live.platform { device = overwritten live.platform.device (at - 0xfe000000) piece } }
           else record live { memory = overwritten live.memory (at - 0x80000000) piece })
-      by_side true is = record {
-        memory = same_memory (region_in after) live.memory;
-        pools = refl;
-        pool_count = refl;
-        reserves = refl;
-        reserve_count = refl;
-      }
-      by_side false is = record {
-        memory = written_outside (region_in after) live.memory piece at n within.orderly.memory few is
-            (passed_lies after within.orderly.placed at n (trapped_of after) Write pass);
-        pools = refl;
-        pool_count = refl;
-        reserves = refl;
-        reserve_count = refl;
-      }
+      by_side true is = cells_put (record live.platform { device = overwritten live.platform.device (at - 0xfe000000) piece })
+      by_side false is =
+          put_live after.image (region_in after) live live.platform (overwritten live.memory (at - 0x80000000) piece)
+          (written_outside (region_in after) live.memory piece at n within.orderly.memory few is
+          (passed_lies after within.orderly.placed at n (trapped_of after) Write pass))
 
   number_within : (kind : Kind) (at n value : ℕ) → passes (verdict_in after kind at n Write) ≡ true
       → SameLive after.image (region_in after) after.tables.live (with_number kind at n value after.tables.live)
   number_within kinds.Memory at n value pass =
       piece_within at n (low_bytes n value) (omega (arith, length-take n (bytes_of_word value))) pass
-  number_within kinds.Io at n value pass = record {
-    memory = same_memory (region_in after) after.tables.live.memory;
-    pools = refl;
-    pool_count = refl;
-    reserves = refl;
-    reserve_count = refl;
-  }
-  number_within kinds.Msr at n value pass = record {
-    memory = same_memory (region_in after) after.tables.live.memory;
-    pools = refl;
-    pool_count = refl;
-    reserves = refl;
-    reserve_count = refl;
-  }
-  number_within kinds.Saved at n value pass = same_live after.image (region_in after) after.tables.live
+  number_within kinds.Io at n value pass = cells_put (with_number kinds.Io at n value after.tables.live).platform
+  number_within kinds.Msr at n value pass = cells_put (with_number kinds.Msr at n value after.tables.live).platform
+  number_within kinds.Saved at n value pass = cells_put after.tables.live.platform
 
   write_within : (kind : Kind) (at n value : ℕ) → passes (write_verdict after kind at n) ≡ true
       → Stays (after_write kind at n value after)
