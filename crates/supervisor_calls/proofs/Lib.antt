@@ -8,7 +8,11 @@ pub mod LawLemmas
 pub mod ListingLemmas
 pub mod LoadingLemmas
 pub mod LowestLemmas
+pub mod OutsideLemmas
+pub mod OwnLemmas
 pub mod ReleaseLemmas
 pub mod ServiceLaws
 pub mod TableLemmas
 pub mod WhereLemmas
+pub mod WithinLemmas
+pub mod WithinServices

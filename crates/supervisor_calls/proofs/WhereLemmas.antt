@@ -46,7 +46,7 @@ pub record InDevice (at n : ℕ) : Type 0 where
 -- ---- places
 
 -- what passes is home in memory, or lies on cells where the rules let it pass
-by_place : (place : Place) (home : Bool) (ruled : Verdict) → passes (verdict_at place home ruled) ≡ true
+pub by_place : (place : Place) (home : Bool) (ruled : Verdict) → passes (verdict_at place home ruled) ≡ true
     → ((place ≡ Mmram) × (home ≡ true)) ⊎ ((place ≡ Cells) × (passes ruled ≡ true))
 by_place Nowhere home ruled pass = absurd cc
 by_place Mmram true ruled pass = inl (refl, refl)
@@ -64,7 +64,7 @@ cells_by false true lanes false e = absurd cc
 cells_by false false true false e = absurd cc
 cells_by false false false false e = absurd cc
 
-in_device : (at n : ℕ) → place_of_bytes (units_from at n) ≡ Cells → InDevice at n
+pub in_device : (at n : ℕ) → place_of_bytes (units_from at n) ≡ Cells → InDevice at n
 in_device at n e =
     let covers : encloses device_window (units_from at n) ≡ true =
     cells_by (nat_lt (2 ^ 64) (at + n)) (share_a_unit mmram (units_from at n)) (share_a_unit lane_window (units_from at n))
@@ -112,7 +112,7 @@ home_is_live pages image at n right placed live own =
     }
 
 -- an image that has a home is there
-at_image : (P : Type 0) (images : List PlacedImage) (number at n : ℕ) (right : Right) (found : Option PlacedImage) → slice_get images number ≡ found
+pub at_image : (P : Type 0) (images : List PlacedImage) (number at n : ℕ) (right : Right) (found : Option PlacedImage) → slice_get images number ≡ found
     → ((image : PlacedImage) → slice_get images number ≡ Some image → is_own right (units_from at n) image ≡ true → P)
     → option_map_or (is_own right (units_from at n)) found false ≡ true → P
 at_image P images number at n right None is each e = absurd cc

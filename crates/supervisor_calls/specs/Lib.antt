@@ -10,3 +10,4 @@ pub mod Loading
 pub mod Services
 pub mod ServicesInside
 pub mod Tables
+pub mod Within

@@ -1,5 +1,6 @@
 //! Laws of accesses and services. These functions do nothing: their contracts are the laws.
 ghost use Rattle.supervisor_calls.specs.Laws.{PassesAtEachUnit, OwnPagesPass, ServicesGoAlong, ServicesLeaveAlone, ListsStayAfterLock};
+ghost use Rattle.supervisor_calls.specs.Within.{CallsStayWithin};
 
 /// What passes, passes at each of its units.
 pub fn passes_unit_by_unit()
@@ -24,4 +25,9 @@ pub fn services_leave_alone()
 /// After lock no service changes the handlers or the interfaces.
 pub fn lists_stay_after_lock()
     ensures { ListsStayAfterLock }
+{}
+
+/// Each call of a domain leaves alone all that isn't its image's own.
+pub fn calls_stay_within()
+    ensures { CallsStayWithin }
 {}

@@ -7,6 +7,7 @@ ghost use Rattle.mm_base.specs.Platform.{mmram};
 ghost use Rattle.mm_base.specs.Range.{encloses};
 ghost use Rattle.mm_base.specs.Regions.{region_of};
 ghost use Rattle.supervisor_calls.specs.Tables.{IsTables, IsRegionLive, number_for, with_image};
+ghost use Rattle.supervisor_calls.specs.Within.{IsOrderly};
 
 use image_table::{ImageTable, MOST_IMAGES};
 use mm_base::{Frames, Guid, Image, List, NoMemory, Part, RESERVE_PAGES};
@@ -172,5 +173,15 @@ impl<F: Frames> Tables<F> {
         ensures few { length self.now.site.images ≤ 32 }
     {
         let _ = self.images.len();
+    }
+
+    /// All tables are as the law asks of what a domain's calls leave alone.
+    pub fn keeps_order(&self)
+        ensures orderly { IsOrderly self.now }
+    {
+        self.keeps();
+        let _ = self.registry.next_number();
+        let _ = self.protocols.rows();
+        let _ = self.protocols.next();
     }
 }
