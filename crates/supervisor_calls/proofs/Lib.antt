@@ -6,6 +6,7 @@ pub mod HoldingLemmas
 pub mod HoldingSteps
 pub mod LawLemmas
 pub mod ListingLemmas
+pub mod LoadingLemmas
 pub mod LowestLemmas
 pub mod OutsideLemmas
 pub mod OwnLemmas

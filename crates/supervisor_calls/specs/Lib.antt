@@ -6,6 +6,7 @@ pub mod Holdings
 pub mod HoldingsInside
 pub mod Laws
 pub mod ListingsInside
+pub mod Loading
 pub mod Services
 pub mod ServicesInside
 pub mod Tables

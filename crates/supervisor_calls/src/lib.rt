@@ -15,6 +15,7 @@ mod interface_services;
 mod judging;
 pub mod laws;
 mod listings;
+mod loading;
 mod memory_access;
 mod page_services;
 mod pool_services;

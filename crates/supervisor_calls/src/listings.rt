@@ -46,14 +46,6 @@ impl<F: Frames> Tables<F> {
         }
     }
 
-    /// The number that the next handler gets. Those that there are lie below it.
-    pub(crate) fn next_number(&self) -> u32
-        ensures value { result ≡ self.now.registry.next }
-        ensures below { All (λ handler. handler.number < self.now.registry.next) self.now.registry.handlers }
-    {
-        self.registry.next_number()
-    }
-
     /// Removes a handler of an image.
     pub(crate) fn unregister(&mut self, number: u32, image: u32) -> Result<(), RemovalEnd>
         requires { self.old.locked ≡ false }

@@ -10,6 +10,6 @@ returns-then-handle-next_number g c =
     let over : c.self.inside.tables.registry.next < handle = omega (arith, c.if-handle-next_number.true, next) in
     let P : DomainState → Type 0 = λ domain. AreBelow domain.tables.registry.next domain.tables.registry.handlers in
     let Q : DomainState → Type 0 = λ domain. domain.tables.registry.next < handle in
-    let below = subst P c.self.view_is c.next_number.ensures.below in
+    let below = subst P c.self.view_is c.next_number.ensures.numbered.below in
     let is = unknown_handle c.args.self.now.image handle c.args.self.now (subst Q c.self.view_is over) below in
     (ap (λ p. p.0) (sym is), ap (λ p. p.1) (sym is))
