@@ -1,12 +1,18 @@
 -- Memory of 8,192 pages, with a piece written to it.
-use Rattle.std.proofs.Common.{◌≡◌, ◌∙◌, ℕ, ◌+◌, ◌≤◌, ◌<◌, Bool, true, List, ◌++◌, length, replicate, take, drop, get_or, All, Fits, w8, ap, sym, subst, refl, arith}
+use Rattle.std.proofs.Common.{◌≡◌, ◌∙◌, ℕ, ◌+◌, ◌≤◌, ◌<◌, Bool, true, Option, Some, None, List, ◌++◌, length, replicate, take, drop, get_or, All, Fits, w8, ap, sym, subst, refl, arith}
+use Rattle.std.proofs.lemmas.Bool.Decides.{nat_tests}
 use Rattle.std.proofs.lemmas.List.{get_or_default}
 use Rattle.std.proofs.lemmas.List.Elements.{All-append, All-drop, All-replicate, All-take}
 use Rattle.mm_base.specs.Frames.{zeros}
 use Rattle.mm_base.specs.Numbers.{overwritten}
+use Rattle.mm_base.specs.Platform.{mmram}
+use Rattle.mm_base.specs.Range.{encloses}
+use Rattle.mm_base.specs.Regions.{region_of}
 use Rattle.mm_memory.specs.Flat.{MemoryState, PlainState, joined, pages_in}
 use Rattle.mm_memory.proofs.PageLemmas.{joined-pages_in, length-overwritten, length-zeros}
-use Rattle.ebc_speed.specs.TestTables.{IsWholeMemory}
+use Rattle.image_table.specs.declared.placed_image.PlacedImage.{PlacedImage}
+use Rattle.supervisor_calls.specs.Tables.{TablesState, with_image}
+use Rattle.ebc_speed.specs.TestTables.{IsWholeMemory, HaveAllPages}
 
 abbrev Small : List ℕ → Type 0
 Small = All (λ byte. byte < 256)
@@ -45,3 +51,12 @@ whole_after memory after at piece whole small fits is same = record {
       (All-drop (λ byte. byte < 256) (at + length piece) memory.bytes whole.small));
   live = same ∙ whole.live;
 }
+
+-- the region of an image of one page lies in memory where it begins no lower and ends no higher
+pub region_within : (base : ℕ) → 0x80000000 ≤ base → base + 159744 ≤ 0x82000000 → encloses mmram (region_of (record { base = base; pages = 1 })) ≡ true
+region_within base from to = grind (arith, nat_tests)
+
+-- one more image changes no page
+pub pages_stay : (number : Option ℕ) (image : PlacedImage) (tables : TablesState) → HaveAllPages tables → HaveAllPages (with_image number image tables)
+pages_stay None image tables have = have
+pages_stay (Some number) image tables have = record { live = have.live }

@@ -63,6 +63,16 @@ const ARGUMENTS: &[Invocation] = &[
         ],
     ),
     (
+        "arguments and out pointers need no alignment, and may lie across two pages",
+        0,
+        &[
+            Put(0x8000_1ffd, 8, 8),
+            Put(0x8000_2005, 8, 0x8000_3ffb),
+            CallAt(0, 0x8000_1ffd, SUCCESS),
+            Look(0x8000_3ffb, 8, POOL),
+        ],
+    ),
+    (
         "arguments elsewhere: the first that can't be read is the denial",
         0,
         &[

@@ -1,6 +1,6 @@
 //! Services of interfaces and of handlers, before and after lock. What is expected was worked out by hand.
 use crate::invocations::Answer::{Refuses, Sets};
-use crate::invocations::Step::{Call, CallAt, Look, Put};
+use crate::invocations::Step::{Call, CallAt, Look, Put, Set};
 use crate::invocations::{
     ACCESS_DENIED, HEADERS, INVALID_PARAMETER, Invocation, KEPT, NAME, NAME_DENIED, NOT_FOUND,
     OTHER_NAME, OUT, OUT_DENIED, OUT_OF_RESOURCES, SECOND_NAME, SECOND_OTHER_NAME, SECOND_OUT,
@@ -8,7 +8,7 @@ use crate::invocations::{
 };
 use mm_base::Kind::Memory;
 use mm_base::Right;
-use mm_base::Why::{Mmram, Range};
+use mm_base::Why::{Mmram, Range, Rule};
 use std::test::Fail;
 
 /// A name that nothing has: 16 bytes of 0.
@@ -288,6 +288,28 @@ const INTERFACES_AFTER: &[Invocation] = &[
             Call(8, [NAME, HEADERS, 0, 0], OUT_DENIED),
             Call(8, [NAME, OUT, 0, 0], SUCCESS),
             Look(OUT, 8, RED),
+        ],
+    ),
+    (
+        "names across two pages, in code, and in device bytes that may be read",
+        0,
+        &[
+            Put(0x8000_1ff9, 8, 0x1111_1111_1111_1111),
+            Put(0x8000_2001, 8, 0x2222_2222_2222_2222),
+            Call(6, [259, 0x8000_1ff9, OUT, 0], SUCCESS),
+            Look(OUT, 8, 2),
+            Call(8, [CODE, OUT, 0, 0], SUCCESS),
+            Look(OUT, 8, GREEN),
+            Call(8, [0xfe00_0810, OUT, 0, 0], SUCCESS),
+            Look(OUT, 8, GREEN),
+            Set(0xfe00_2001, 8, 0x1111_1111_1111_1111, 0x1111_1111_1111_1111),
+            Set(0xfe00_2009, 8, 0x2222_2222_2222_2222, 0x2222_2222_2222_2222),
+            Call(6, [260, 0xfe00_2001, OUT, 0], SUCCESS),
+            Look(OUT, 8, 3),
+            Call(8, [0xfe00_0808, OUT, 0, 0], Refuses(Memory, Right::Read, 0xfe00_0808, 16, Rule(11))),
+            Call(8, [0xfe00_fff1, OUT, 0, 0], Refuses(Memory, Right::Read, 0xfe00_fff1, 16, Range)),
+            Call(8, [0x8000_00f8, OUT, 0, 0], Refuses(Memory, Right::Read, 0x8000_00f8, 16, Mmram)),
+            Look(OUT, 8, 3),
         ],
     ),
     (
