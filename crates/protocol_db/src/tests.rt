@@ -522,7 +522,8 @@ impl Draws {
             10..=15 => Call::Install(row.handle, row.guid, row.interface, row.owner),
             16..=23 => Call::Uninstall(row.handle, row.guid, row.interface, row.owner),
             24..=25 => Call::HandleProtocol(row.handle, row.guid),
-            26..=27 => Call::LocateHandle(row.guid, self.below(16)),
+            26 => Call::LocateHandle(row.guid, self.below(16)),
+            27 => Call::Has(row.guid),
             28 => Call::LocateProtocol(row.guid),
             29 => Call::Rows,
             30 => Call::Next,
@@ -543,8 +544,11 @@ fn have_alike(db: &ProtocolDb, plain: &Plain) -> bool {
     true
 }
 
-/// Whether both tell the same handles of each GUID, in the same order.
-fn orders_alike(db: &mut ProtocolDb, plain: &mut Plain) -> bool {
+/// Whether both tell the same handles of each GUID, in the same order, and of the same GUIDs that they have any.
+fn tell_alike(db: &mut ProtocolDb, plain: &mut Plain) -> bool {
+    if !have_alike(db, plain) {
+        return false;
+    }
     for guid in 0..4u8 {
         for index in 0..50 {
             let call = Call::LocateHandle(Guid([guid; 16]), index);
@@ -566,10 +570,10 @@ fn first_unlike(alloc: Global, seed: u64, steps: usize) -> Option<usize> {
     let mut draws = Draws(seed);
     for step in 0..steps {
         let call = draws.call(plain.rows.as_slice());
-        if ask(&mut db, call) != plain.answer(call) || !have_alike(&db, &plain) {
+        if ask(&mut db, call) != plain.answer(call) {
             return Some(step);
         }
-        if step % 64 == 0 && !orders_alike(&mut db, &mut plain) {
+        if step % 32 == 0 && !tell_alike(&mut db, &mut plain) {
             return Some(step);
         }
     }
