@@ -35,8 +35,8 @@ impl<'a, R: Files<File = F>, F: Read + Drop> Read for LateFile<'a, R, F> {
 
     /// Reads from the file, after it was opened. An answer is the file's, and never comes without it.
     fn read(&mut self, buf: &mut [u8]) -> io::Result<usize>
-        ensures bound { ReadsAtMost result buf.new }
-        ensures bytes { ReadConsumes
+        ensures within { ReadsAtMost result buf.new }
+        ensures consumes { ReadConsumes
             (option_and_then F.remaining self.old.file) (option_and_then F.remaining self.new.file) result buf.new }
         ensures opened { OnOk result (IsSome self.new.file) }
     {
