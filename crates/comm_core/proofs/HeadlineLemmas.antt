@@ -18,8 +18,8 @@ use Rattle.mm_history.specs.History.{requests_of}
 use Rattle.comm_core.specs.Headline.{TellsTrue, turns_in, numbered_turns, outcomes_in, WasCapturedOnce}
 use Rattle.comm_core.specs.Laws.{Begins, LoadsOnce, IsServed, action_of}
 use Rattle.comm_core.specs.Standing.{captured, answered, AreWhole, StandsIn, next_at, Place, AtRest, Called, Capturing, Answering}
-use Rattle.comm_core.specs.WorldHeadline.{lane_values, HasHeadline}
-use Rattle.comm_core.specs.WorldState.{LaneState, WorldState}
+use Rattle.comm_core.specs.WorldHeadline.{HasHeadline}
+use Rattle.comm_core.specs.WorldState.{LaneState, WorldState, lane_values}
 use Rattle.comm_core.specs.WorldPast.{StandsForEvents}
 use Rattle.comm_core.specs.declared.action.Action.{Action}
 use Rattle.comm_core.specs.declared.action.Action.TheVariants.{Rest, Load, Turn}

@@ -1,5 +1,6 @@
 pub mod Capture
 pub mod Headline
+pub mod HeadlineLaw
 pub mod Laws
 pub mod Piece
 pub mod Processor

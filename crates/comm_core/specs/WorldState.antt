@@ -1,6 +1,6 @@
 -- What contracts see of a world: the words and the processors of its lanes, its machine with the entries so far, and
 -- the trace.
-use Rattle.std.specs.Prelude.{ℕ, List}
+use Rattle.std.specs.Prelude.{ℕ, List, map}
 use Rattle.mm_base.specs.declared.entry.Entry.{Entry}
 use Rattle.comm_core.specs.Processor.{ProcessorState}
 use Rattle.comm_core.specs.declared.trace.Trace.{Trace}
@@ -19,3 +19,7 @@ pub record WorldState (M : Type 0) : Type 0 where
   pub machine : M
   pub entries : List Entry
   pub trace : List Trace
+
+-- the values of all words of each lane
+abbrev pub lane_values : List LaneState → List (List ℕ)
+lane_values lanes = map (λ seen. seen.values) lanes

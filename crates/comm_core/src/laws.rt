@@ -1,6 +1,6 @@
 //! Laws of the capture, for every machine, every list of events of any lanes, and every lane and lane size.
 ghost use Rattle.std.specs.Prelude.{◌≡◌};
-ghost use Rattle.comm_core.specs.WorldHeadline.{EachHasHeadline};
+ghost use Rattle.comm_core.specs.HeadlineLaw.{EachHasHeadline};
 ghost use Rattle.comm_core.specs.Laws.{EachWordOnce, OlderAreServed, EachBegins, RequestsStay, CourseRequestsStay, RunRests};
 
 use crate::{LEAST_WORDS, MOST_WORDS};
