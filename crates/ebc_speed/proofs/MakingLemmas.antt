@@ -1,5 +1,5 @@
 -- Memory of 8,192 pages, with a piece written to it.
-use Rattle.std.proofs.Common.{◌≡◌, ◌∙◌, ℕ, ◌+◌, ◌≤◌, ◌<◌, Bool, true, Option, Some, None, List, ◌++◌, length, replicate, take, drop, get_or, All, Fits, w8, ap, sym, subst, refl, arith}
+use Rattle.std.proofs.Common.{◌≡◌, ◌∙◌, ℕ, zero, suc, ◌+◌, ◌≤◌, ◌<◌, Bool, true, false, Option, Some, None, List, ◌++◌, length, replicate, take, drop, get_or, All, Fits, w8, ap, sym, subst, refl, arith}
 use Rattle.std.proofs.lemmas.Bool.Decides.{nat_tests}
 use Rattle.std.proofs.lemmas.List.{get_or_default}
 use Rattle.std.proofs.lemmas.List.Elements.{All-append, All-drop, All-replicate, All-take}
@@ -60,3 +60,9 @@ region_within base from to = grind (arith, nat_tests)
 pub pages_stay : (number : Option ℕ) (image : PlacedImage) (tables : TablesState) → HaveAllPages tables → HaveAllPages (with_image number image tables)
 pages_stay None image tables have = have
 pages_stay (Some number) image tables have = record { live = have.live }
+
+-- each of pages that are all live is live
+pub all_live : (n page : ℕ) → page < n → get_or (replicate n true) page false ≡ true
+all_live zero page few = absurd (omega (arith, few))
+all_live (suc n) zero few = refl
+all_live (suc n) (suc page) few = all_live n page (omega (arith, few))
