@@ -7,7 +7,7 @@ use Rattle.comm_core.proofs.HeadlineLemmas.{headline_of}
 use Rattle.mm_core.specs.CoreState.{CoreState}
 use Rattle.mm_core.specs.EntryStep.{core_step}
 use Rattle.mm_core.specs.MachineLemmas.{core_step-within}
-use Rattle.mm_run.specs.RunHeadline.{StandsForScript}
+use Rattle.mm_run.specs.RunWorld.{StandsForScript}
 use Rattle.mm_run.specs.SourceKinds.{most_of, IsGoodAs}
 use Rattle.mm_run.specs.Sources.{NamedSource, sources_named, HasFailed, WasRead, StopsRun, Wanting, RunStops, AllRead, HoldsGood, AllHoldGood, HoldsFault, FaultHeld, FirstBad, OthersAreUntouched}
 use Rattle.mm_run.specs.declared.command.Command.{Command}

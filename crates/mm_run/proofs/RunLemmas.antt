@@ -11,8 +11,7 @@ use Rattle.mm_base.specs.declared.policy.PolicyFault.{PolicyFault}
 use Rattle.mm_base.specs.declared.volume.Volume.{Volume}
 use Rattle.mm_io.specs.Streams.{Appends, AppendsFront, Gives, GivesAll, GivesMoreThan, HasMoreThan, IsUsedUp}
 use Rattle.comm_core.specs.Capture.{pieces_in}
-use Rattle.comm_core.specs.WorldHeadline.{lane_values}
-use Rattle.comm_core.specs.WorldState.{WorldState}
+use Rattle.comm_core.specs.WorldState.{WorldState, lane_values}
 use Rattle.comm_core.proofs.HeadlineLemmas.{pieces_told, headline_of}
 use Rattle.mm_core.specs.CoreState.{CoreState}
 use Rattle.mm_core.specs.EntryStep.{core_step}
@@ -25,7 +24,8 @@ use Rattle.volume_policy.specs.PolicyFiles.{HasVolumePolicyFault}
 use Rattle.volume_policy.proofs.Offered.{never_policy_and_fault, one_policy_fault}
 use Rattle.mm_run.specs.Command.{command_of, drives}
 use Rattle.mm_run.specs.Run.{IsReport, Reports, Shows, Whole, Front}
-use Rattle.mm_run.specs.RunHeadline.{Drives, IsHeadlineOf, StandsForScript, OfWorld}
+use Rattle.mm_run.specs.RunHeadline.{Drives, IsHeadlineOf, OfWorld}
+use Rattle.mm_run.specs.RunWorld.{StandsForScript}
 use Rattle.mm_run.specs.RunInside.{one_kind, one_source, IsMadeOfScript, IsMadeOf, IsMade, RefusesBytes}
 use Rattle.mm_run.specs.ScriptRun.{core_of, past_of, lanes_of, run_report, report_for}
 use Rattle.mm_run.specs.SourceKinds.{most_of, IsGoodAs, IsFaultyAs}

@@ -6,8 +6,7 @@ use Rattle.std.proofs.lemmas.List.Elements.{All-same}
 use Rattle.mm_base.specs.Replay.{replayed}
 use Rattle.mm_base.specs.declared.entry.Entry.{Entry}
 use Rattle.comm_core.specs.Capture.{Mark, trace_of, course, requests, value_at}
-use Rattle.comm_core.specs.WorldHeadline.{lane_values}
-use Rattle.comm_core.specs.WorldState.{LaneState, WorldState}
+use Rattle.comm_core.specs.WorldState.{LaneState, WorldState, lane_values}
 use Rattle.comm_core.specs.WorldPast.{StandsForEvents}
 use Rattle.comm_core.specs.WorldReadiness.{IsOfWorld}
 use Rattle.comm_core.specs.declared.event.Event.{Event}

@@ -3,6 +3,7 @@ pub mod Command
 pub mod Run
 pub mod RunHeadline
 pub mod RunInside
+pub mod RunWorld
 pub mod ScriptRun
 pub mod SourceKinds
 pub mod Sources

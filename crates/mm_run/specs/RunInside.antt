@@ -3,9 +3,8 @@
 use Rattle.std.specs.Prelude.{◌≡◌, ◌⊎◌, ℕ, List, [], ◌∷◌, true, Some, None}
 use Rattle.mm_base.specs.End.{out_of_memory}
 use Rattle.comm_core.specs.Capture.{trace_of}
-use Rattle.comm_core.specs.WorldHeadline.{lane_values}
 use Rattle.comm_core.specs.WorldPast.{StandsForEvents}
-use Rattle.comm_core.specs.WorldState.{WorldState}
+use Rattle.comm_core.specs.WorldState.{WorldState, lane_values}
 use Rattle.comm_core.specs.declared.script.Script.{Script}
 use Rattle.mm_core.specs.CoreState.{CoreState}
 use Rattle.mm_core.specs.EntryStep.{core_step}

@@ -5,7 +5,8 @@ use Rattle.mm_io.specs.Causes.{Rose}
 use Rattle.mm_io.specs.Streams.{Appends, AppendsFront}
 use Rattle.mm_run.specs.Command.{drives}
 use Rattle.mm_run.specs.Run.{Reports}
-use Rattle.mm_run.specs.RunHeadline.{IsHeadlineOf, StandsForScript, OfWorld}
+use Rattle.mm_run.specs.RunHeadline.{IsHeadlineOf, OfWorld}
+use Rattle.mm_run.specs.RunWorld.{StandsForScript}
 use Rattle.mm_run.specs.Sources.{NamedSource, RunStops, AllHoldGood, FirstBad}
 use Rattle.mm_run.specs.declared.command.Command.{Command}
 use Rattle.mm_run.specs.declared.status.Status.TheVariants.{Done, NoMemory}

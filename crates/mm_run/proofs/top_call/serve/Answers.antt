@@ -3,7 +3,8 @@ use Rattle.std.specs.declared.option.Option.{Option}
 use Rattle.comm_core.specs.WorldState.{WorldState}
 use Rattle.mm_core.specs.CoreState.{CoreState}
 use Rattle.mm_io.specs.Streams.{Appends, AppendsFront}
-use Rattle.mm_run.specs.RunHeadline.{IsHeadlineOf, StandsForScript, OfWorld}
+use Rattle.mm_run.specs.RunHeadline.{IsHeadlineOf, OfWorld}
+use Rattle.mm_run.specs.RunWorld.{StandsForScript}
 use Rattle.mm_run.specs.RunInside.{one_source}
 use Rattle.mm_run.specs.Sources.{Seen, seen}
 use Rattle.mm_run.proofs.RunLemmas.{made_headline, made_stands, made_not_bad, made_reports, stopped_good, stopped_bad}
