@@ -1,8 +1,8 @@
 -- Counts of GUIDs: what an entry that changes makes of them, and that they are those of the rows.
-use Rattle.std.proofs.Common.{◌≡◌, ℕ, ◌+◌, ◌-◌, ◌≤◌, ◌||◌, Bool, true, false, cond, not, nat_lt, is_some, List, [], ◌∷◌, ◌++◌, Option, None, Some}
+use Rattle.std.proofs.Common.{◌≡◌, ℕ, ◌+◌, ◌-◌, ◌≤◌, ◌||◌, Bool, true, false, cond, not, nat_lt, is_some, List, [], ◌∷◌, ◌++◌, Option, Some}
 use Rattle.std.proofs.Common.{refl, sym, ap, subst, ◌∙◌, arith, length}
-use Rattle.std.specs.List.{All, filter, list_any}
-use Rattle.std.specs.Map.{lookup, count_at, remove_entry, values_of}
+use Rattle.std.specs.List.{filter, list_any}
+use Rattle.std.specs.Map.{lookup, remove_entry, values_of}
 use Rattle.std.specs.Option.{unwrap_or}
 use Rattle.std.specs.Str.{bytes_eq}
 use Rattle.std.proofs.lemmas.Bool.{lt-ltb}

@@ -1,4 +1,4 @@
-use Rattle.std.proofs.Common.{◌≡◌, false, true, arith, is_some, refl, sym, ap, subst, ◌∙◌}
+use Rattle.std.proofs.Common.{true, is_some, refl, sym, ap, subst, ◌∙◌}
 use Rattle.std.specs.Map.{values_of}
 use Rattle.protocol_db.specs.CountsInside.{AreCounts}
 use Rattle.protocol_db.specs.KeysInside.{AreKeyed}
