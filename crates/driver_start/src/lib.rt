@@ -6,9 +6,11 @@ mod driver;
 mod host;
 mod invoking;
 mod loading;
+mod record;
 mod starting;
 mod withdrawing;
 
 pub use driver::Driver;
 pub use host::Host;
+pub use record::StartRecord;
 pub use starting::{StartEnd, start};

@@ -21,6 +21,7 @@ mod page_services;
 mod pool_services;
 mod services;
 mod tables;
+mod telling;
 
 pub use domain::{Domain, enter};
 pub use tables::Tables;
