@@ -32,7 +32,9 @@ impl StartRecord {
         } }
     {
         let Invocation {
-            denials, writes, ..
+            denials,
+            writes,
+            ..
         } = records.ended(0, Ended::Returned(0));
         StartRecord {
             name,

@@ -68,6 +68,7 @@ impl<F: Frames> Tables<F> {
     pub fn verdict(&self, image: u32, kind: Kind, unit: u64, right: Right) -> Verdict
         ensures { result ≡ decided self.now.site image kind unit 1 right 0 }
     {
-        self.guard.decide(&self.images, image, kind, unit, 1, right, 0)
+        self.guard
+            .decide(&self.images, image, kind, unit, 1, right, 0)
     }
 }
