@@ -1,12 +1,16 @@
 //! What tables tell of their handlers, their interfaces, their images and their policy.
-ghost use Rattle.std.specs.Prelude.{◌≡◌, ℕ, ◌<◌, ◌≤◌, length, slice_get};
+ghost use Rattle.std.specs.Prelude.{◌≡◌, ℕ, ◌+◌, ◌<◌, ◌≤◌, length, slice_get, Some};
 ghost use Rattle.std.specs.List.{list_any};
+ghost use Rattle.std.specs.Option.{option_map};
 ghost use Rattle.image_table.specs.ImageTable.{home_ranges_at, name_at};
+ghost use Rattle.mm_base.specs.Numbers.{number_in};
+ghost use Rattle.mm_memory.specs.Flat.{AreLive};
+ghost use Rattle.mmi_registry.specs.Handlers.{chain_of};
 ghost use Rattle.protocol_db.specs.Rows.{AreApart, is_of_guid, owned_by};
 ghost use Rattle.supervisor_calls.specs.Accesses.{decided};
 
 use crate::tables::Tables;
-use mm_base::{Frames, Guid, Handler, Homes, Kind, Policy, Range, Right, Verdict};
+use mm_base::{Frames, Guid, Handler, Homes, Kind, Policy, Range, Region, Right, Verdict};
 
 impl<F: Frames> Tables<F> {
     /// How many handlers there are: 321 at most.
@@ -22,6 +26,13 @@ impl<F: Frames> Tables<F> {
         ensures { result ≡ slice_get self.now.registry.handlers k }
     {
         self.registry.all(k)
+    }
+
+    /// The handler at place `k` of a GUID's chain, in order of registration; None past the last. It costs one step a handler.
+    pub fn chain(&self, guid: Guid, k: u32) -> Option<Handler>
+        ensures { result ≡ slice_get (chain_of (Some guid) self.now.registry.handlers) k }
+    {
+        self.registry.chain(guid, k)
     }
 
     /// How many interfaces there are. An image owns 16 at most.
@@ -45,6 +56,29 @@ impl<F: Frames> Tables<F> {
         ensures { result ≡ name_at self.now.site.images image }
     {
         self.images.owner(image)
+    }
+
+    /// The region of an image.
+    pub fn region(&self, image: u32) -> Region
+        requires { image < length self.now.site.images }
+        ensures { option_map (λ placed. placed.region) (slice_get self.now.site.images image) ≡ Some result }
+    {
+        Region {
+            base: self.images.base(image),
+            pages: self.images.pages(image),
+        }
+    }
+
+    /// The number in the `n` bytes of memory from `at`, for `n` of 1 to 8. It costs one or two reads of a page.
+    pub fn number(&self, at: u32, n: u8) -> u64
+        requires low { 1 ≤ n }
+        requires high { n ≤ 8 }
+        requires within { at + n ≤ 33554432 }
+        requires live { AreLive self.now.pages at n }
+        ensures { result ≡ number_in self.now.live.memory at n }
+    {
+        self.keeps();
+        self.memory.read(at, n)
     }
 
     /// The home range at place `k` of an image by rising address, with the bits of its rights (1 for read, 2 for write, 4 for
