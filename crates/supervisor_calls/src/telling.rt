@@ -70,7 +70,7 @@ impl<F: Frames> Tables<F> {
     }
 
     /// The number in the `n` bytes of memory from `at`, for `n` of 1 to 8. It costs one or two reads of a page.
-    pub fn number(&self, at: u32, n: u8) -> u64
+    pub fn number_in_memory(&self, at: u32, n: u8) -> u64
         requires low { 1 ≤ n }
         requires high { n ≤ 8 }
         requires within { at + n ≤ 33554432 }
