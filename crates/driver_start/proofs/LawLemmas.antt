@@ -1,5 +1,5 @@
 -- What a start leaves where the driver doesn't start.
-use Rattle.std.proofs.Common.{◌≡◌, ◌⊎◌, inl, inr, ◌×◌, ℕ, Bool, true, false, if◌then◌else◌, nat_lt, length, Option, Some, None, refl, sym, ap, ◌∙◌}
+use Rattle.std.proofs.Common.{◌≡◌, ◌⊎◌, inl, inr, ℕ, Bool, true, false, if◌then◌else◌, nat_lt, length, Option, Some, None, refl, sym, ap, ◌∙◌}
 use Rattle.mm_base.specs.Records.{RecordsState}
 use Rattle.mm_base.specs.declared.invocation.Ended.{Ended}
 use Rattle.supervisor_calls.specs.Domains.{DomainState}
@@ -35,11 +35,10 @@ module _ (host : HostState) where
     on_found : (found : Option ℕ) → LeavesCells (started_on loadable host found) × LeavesAll (started_on loadable host found)
     on_found None = (λ ended is failed. absurd cc, λ either. (refl, refl))
     on_found (Some page) =
-        let ran : Ended × DomainState = entry_run (region_on page loadable.image) loadable.image.entry (admitted loadable page host.tables) in
-        (
+        let ran : Ended × DomainState = entry_run (region_on page loadable.image) loadable.image.entry (admitted loadable page host.tables) in (
           λ ended is failed.
-          let same : ran.0 ≡ ended = cc in
-          settles page ran (ap has_started same ∙ failed),
+              let same : ran.0 ≡ ended = cc in
+              settles page ran (ap has_started same ∙ failed),
           λ either. elim either [ inl is ↦ absurd cc | inr is ↦ absurd cc ],
         )
 

@@ -1,7 +1,7 @@
 pub mod BeforeLemmas
 pub mod CleanLemmas
 pub mod CodeLemmas
-pub mod FixupLemmas
+pub mod FormLemmas
 pub mod LawLemmas
 pub mod LoadLemmas
 pub mod Offered

@@ -1,2 +1,2 @@
 -- What other crates cite: these names stay.
-pub use Rattle.driver_start.proofs.FixupLemmas.{loadable_of-is}
+pub use Rattle.driver_start.proofs.FormLemmas.{loadable_of-is}

@@ -1,9 +1,10 @@
 -- The host before the first start: all pages are there, all are free, and all of memory is zero.
-use Rattle.std.proofs.Common.{◌≡◌, ℕ, zero, suc, ◌*◌, ◌≤◌, ◌<◌, Bool, true, false, List, [], length, get_or, All, replicate, refl, sym, ap, ◌∙◌, subst, arith}
+use Rattle.std.proofs.Common.{◌≡◌, ℕ, zero, suc, ◌*◌, ◌<◌, IfOk, Result, Ok, Err, true, false, List, [], length, get_or, All, replicate, refl, sym, ap, ◌∙◌, subst, arith}
 use Rattle.std.proofs.lemmas.List.{get_or-replicate, length-replicate}
 use Rattle.std.proofs.lemmas.List.Elements.{All-nil, All-replicate}
 use Rattle.mm_base.specs.Frames.{zeros}
 use Rattle.mm_base.specs.declared.cells.CellWrite.{CellWrite}
+use Rattle.mm_base.specs.declared.no_memory.NoMemory.{NoMemory}
 use Rattle.mm_base.specs.declared.policy.Policy.{Policy}
 use Rattle.mm_memory.specs.Flat.{MemoryState, PlainState, joined, pages_in}
 use Rattle.mm_memory.proofs.PageLemmas.{joined-pages_in, length-zeros}
@@ -54,7 +55,10 @@ each_blank : (at : ℕ) → get_or blank_memory at 0 ≡ 0
 unfolding blank_memory
 each_blank at = each_zero 33554432 at
 
-module _ (memory : MemoryState) (is : memory ≡ blank_state) where
+module _ (memory : MemoryState) (told : memory ≡ record { bytes = zeros (4096 * 8192); live = replicate 8192 true }) where
+  is : memory ≡ blank_state
+  is = is_blank memory told
+
   pub memory_whole : length memory.bytes ≡ 33554432
   memory_whole = ap (λ (m : MemoryState). length m.bytes) is ∙ length-blank
 
@@ -66,7 +70,7 @@ module _ (memory : MemoryState) (is : memory ≡ blank_state) where
 -- ---- the host
 
 module _ (policy : Policy) (platform : PlatformState) where
-  pub blank_is_host : IsHost (record { tables = blank_tables policy platform; taken = replicate 8192 false })
+  blank_is_host : IsHost (record { tables = blank_tables policy platform; taken = replicate 8192 false })
   unfolding blank_tables
   blank_is_host = record {
     pages = length-replicate 8192 false;
@@ -75,3 +79,43 @@ module _ (policy : Policy) (platform : PlatformState) where
     handlers = All-nil _;
     rows = All-nil _;
   }
+
+  -- tables over a memory
+  abbrev tables_over : MemoryState → TablesState
+  tables_over memory = record {
+    site = record { images = []; policy = policy };
+    live = record { memory = memory.bytes; platform = platform; pools = []; reserves = [] };
+    registry = record { handlers = []; next = 0; frozen = false };
+    protocols = record { rows = []; next = 256; frozen = false };
+    locked = false;
+    pages = memory.live;
+  }
+
+  tables_are_blank : tables_over blank_state ≡ blank_tables policy platform
+  unfolding blank_tables
+  tables_are_blank = refl
+
+module _ (memory : MemoryState) (told : memory ≡ record { bytes = zeros (4096 * 8192); live = replicate 8192 true }) (policy : Policy) where
+  made_blank : (platform : PlatformState) (tables : TablesState) → tables ≡ tables_over policy platform memory → tables ≡ blank_tables policy platform
+  made_blank platform tables made = made ∙ ap (tables_over policy platform) (is memory told) ∙ tables_are_blank policy platform
+
+  pub tables_are_host : (platform : PlatformState) (tables : TablesState) → tables ≡ tables_over policy platform memory
+      → IsHost (record { tables = tables; taken = replicate 8192 false })
+  tables_are_host platform tables made =
+      let P : TablesState → Type 0 = λ t. IsHost (record { tables = t; taken = replicate 8192 false }) in
+      subst P (sym (made_blank platform tables made)) (blank_is_host policy platform)
+
+  opening_is : (given : Policy) (cells : List CellWrite) → policy ≡ given
+      → (record { tables = blank_tables policy (opening_state cells); taken = replicate 8192 false }) ≡ opening_host given cells
+  unfolding opening_host
+  opening_is given cells same = ap (λ p. opening_host p cells) same
+
+  pub opened : (given : Policy) → policy ≡ given → (platform : PlatformState) (cells : List CellWrite) → platform ≡ opening_state cells
+      → (tables : TablesState) → tables ≡ tables_over policy platform memory
+      → (result : Result HostState NoMemory) → IfOk result (λ host. host ≡ record { tables = tables; taken = replicate 8192 false })
+      → IfOk result (λ host. host ≡ opening_host given cells)
+  opened given same platform cells holds tables made (Ok host) done =
+      done
+      ∙ ap (λ (t : TablesState). (record { tables = t; taken = replicate 8192 false })) (made_blank platform tables made ∙ ap (blank_tables policy) holds)
+      ∙ opening_is given cells same
+  opened given same platform cells holds tables made (Err refused) done = tt

@@ -1,5 +1,5 @@
 -- Laws of starts: what is left where a driver doesn't start.
-use Rattle.std.specs.Prelude.{◌≡◌, ◌⊎◌, ◌×◌, false}
+use Rattle.std.specs.Prelude.{◌≡◌, ◌⊎◌, false}
 use Rattle.mm_base.specs.declared.invocation.Ended.{Ended}
 use Rattle.platform_model.specs.Cells.{PlatformState}
 use Rattle.driver_start.specs.Hosts.{HostState}
