@@ -34,7 +34,8 @@ module _ (form : List ℕ) (directory : Range) where
 
   module _ (size : ℕ) where
     -- each block has 8 bytes at least, so there are no more than the directory has bytes
-    blocks_are : (n at : ℕ) (blocks : List Block) (end : ℕ) → directory_end directory ≤ at + n → BlocksLead form size directory at blocks end
+    blocks_are : (n at : ℕ) (blocks : List Block) (end : ℕ) → directory_end directory ≤ at + n
+        → BlocksLead form size directory at blocks end
         → is_block form directory end ≡ false → blocks ≡ blocks_along n form directory at
     blocks_are n at [] end few leads ends =
         let P : ℕ → Type 0 = λ place. is_block form directory place ≡ false in
@@ -53,7 +54,8 @@ module _ (form : List ℕ) (directory : Range) where
         read.1.are
         ∙ ap fixups_in (blocks_are directory.length directory.base read.1.blocks read.1.end (omega arith) read.1.leads read.1.ends)
 
-fixups_of_image : (bytes : List ℕ) (read : AreRead (plain_form bytes) (image_size bytes) (relocs_of bytes)) → read.0 ≡ fixups_in (blocks_of bytes)
+fixups_of_image : (bytes : List ℕ) (read : AreRead (plain_form bytes) (image_size bytes) (relocs_of bytes))
+    → read.0 ≡ fixups_in (blocks_of bytes)
 unfolding blocks_of
 fixups_of_image bytes read = fixups_are (plain_form bytes) (relocs_of bytes) (image_size bytes) read
 

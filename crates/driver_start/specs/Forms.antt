@@ -8,7 +8,7 @@ use Rattle.pe_loader.specs.Loading.{loaded}
 use Rattle.pe_loader.specs.Sections.{parts}
 use Rattle.driver_start.specs.Starts.{DriverState, Loadable}
 
--- the relocation blocks of a directory from a place on, one behind another; no more are looked at than this number says
+-- the relocation blocks of a directory from a place on, one after another; no more are looked at than this number says
 unfoldable pub blocks_along : ℕ → List ℕ → Range → ℕ → List Block
 blocks_along zero form directory at = []
 blocks_along (suc n) form directory at =
@@ -16,13 +16,14 @@ blocks_along (suc n) form directory at =
     then block_at form at ∷ blocks_along n form directory (at + (block_at form at).size)
     else []
 
--- the relocation blocks of an image: all from its directory's begin on, of which there are no more than the directory has bytes
+-- the relocation blocks of an image: all from its directory's begin on; there are no more than the directory has bytes
 unfoldable pub blocks_of : List ℕ → List Block
 blocks_of bytes =
     let directory = relocs_of bytes in
     blocks_along directory.length (plain_form bytes) directory directory.base
 
--- A driver as it is loaded: it has the sections of its image's table, and at each address its plain form with all fixups applied.
+-- A driver as it is loaded: its sections are those of its image's table, and its form at each address is the plain one
+-- with all fixups applied.
 unfoldable pub loadable_of : DriverState → Loadable
 loadable_of driver = record {
   name = driver.name;

@@ -43,7 +43,7 @@ impl<F: Frames + Drop> Host<F> {
     }
 }
 
-/// Memory of so many pages, all zero.
+/// Memory of this many pages, all zero.
 fn zero_memory(alloc: Global, pages: u32) -> Result<Memory<PlainFrames>, NoMemory>
     ensures { IfOk result (λ memory. memory ≡ record { bytes = zeros (4096 * pages); live = replicate pages true }) }
 {

@@ -32,8 +32,8 @@ const ZERO: Denial = Denial {
 const READS_80: &[u8] =
     b"\x60\x81\x18\0\x6b\x05\x20\x04\x6b\x04\x77\x32\x80\0\x6b\x02\x77\x32\x01\0\x6b\x02\x60\x13\xc0\x01";
 
-/// What stands behind that.
-const BEHIND_READS: usize = CODE + 26;
+/// Where the call for it stands.
+const CALL_80: usize = CODE + 26;
 
 const STATUSES: &[Start] = &[
     (
@@ -160,10 +160,7 @@ fn faults_fail(rt: HostRuntime) -> Result<(), Fail> {
 const DENIALS: &[Start] = &[
     (
         "one denial, whose status is returned: the call; R0 = R0(+32); RET",
-        &[
-            (CODE, READS_80),
-            (BEHIND_READS, b"\x03\x23\x60\0\x20\0\x04\0"),
-        ],
+        &[(CODE, READS_80), (CALL_80, b"\x03\x23\x60\0\x20\0\x04\0")],
         Ran(Returned(0x8000_0000_0000_000f)),
         NOTHING,
         &[PORT],
@@ -171,7 +168,7 @@ const DENIALS: &[Start] = &[
     ),
     (
         "eight denials: the call; JMP8 back to it",
-        &[(CODE, READS_80), (BEHIND_READS, b"\x03\x23\x02\xfe")],
+        &[(CODE, READS_80), (CALL_80, b"\x03\x23\x02\xfe")],
         Ran(Denied(Why::NoRule, 0x80)),
         NOTHING,
         &[PORT, PORT, PORT, PORT, PORT, PORT, PORT, PORT],
@@ -181,10 +178,7 @@ const DENIALS: &[Start] = &[
         "two denials, and the status 0: the call, twice; R7 = 0; R0 = R0(+32); RET",
         &[
             (CODE, READS_80),
-            (
-                BEHIND_READS,
-                b"\x03\x23\x03\x23\x77\x37\0\0\x60\0\x20\0\x04\0",
-            ),
+            (CALL_80, b"\x03\x23\x03\x23\x77\x37\0\0\x60\0\x20\0\x04\0"),
         ],
         Ran(Returned(0)),
         (1, 0, 0),
@@ -275,7 +269,7 @@ const ARGUMENTS: &[Start] = &[
         &[],
     ),
     (
-        "R7 = @R0(+24): the service page, behind 1 page of the image, 4 of its stack, and the communicate page",
+        "R7 = @R0(+24): the service page, after 1 page of the image, 4 of its stack, and the communicate page",
         &[(CODE, b"\x60\x87\x18\0\x04\0")],
         Ran(Returned(0x8005_4000)),
         (3, 0, 0),

@@ -52,7 +52,7 @@ fn a_smaller_one_fits(rt: HostRuntime) -> Result<(), Fail> {
     Ok(())
 }
 
-/// A host on which the sample was started so many times; None where one of these starts failed.
+/// A host on which the sample was started this often; None where one of these starts failed.
 fn host_with(alloc: Global, times: u32) -> Result<Option<Host<PlainFrames>>, NoMemory> {
     let bytes = made(alloc, &DRIVER, &[])?;
     let Some(mut host) = host_under(alloc, NO_RULES)? else {

@@ -5,7 +5,7 @@ use std::alloc::Global;
 /// Bytes and the place in a file that they are written to.
 pub type Piece = (usize, &'static [u8]);
 
-/// So many bytes, 0 but for these pieces.
+/// Bytes that are 0 but for these pieces.
 #[derive(Clone, Copy)]
 pub struct Sample {
     pub length: usize,
@@ -90,7 +90,7 @@ fn write(bytes: &mut [u8], piece: &Piece) {
     }
 }
 
-/// So many zeros.
+/// This many zeros.
 fn blank(alloc: Global, count: usize) -> Result<Vec<u8>, NoMemory> {
     Ok(vec![in alloc; 0u8; count]?)
 }

@@ -71,7 +71,7 @@ pub fn started(
     Ok(Some((host, StartRecord::new(NAME, 1, ended, records))))
 }
 
-/// Whether a host has so many.
+/// Whether a host has that.
 pub fn has(host: &Host<PlainFrames>, expected: Has) -> bool {
     let (images, handlers, interfaces) = expected;
     let tables = host.tables();

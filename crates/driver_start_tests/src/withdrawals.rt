@@ -120,7 +120,7 @@ const INTERFACES: &[Start] = &[
         &[],
     ),
     (
-        "one of a start that fails, behind it",
+        "another one, of a start that fails",
         &[
             (CODE, INSTALLS),
             (CODE + 26, b"\xf7\x37\x01\0\0\0\0\0\0\x80\x60\0\x28\0\x04\0"),
