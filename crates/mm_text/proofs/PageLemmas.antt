@@ -4,7 +4,7 @@ use Rattle.std.proofs.lemmas.List.{drop_more, append-nil, get_or-map, length-map
 use Rattle.std.specs.List.{flat_map}
 use Rattle.hex.specs.Hex.{encode_lower, encode_with, lower_digits}
 use Rattle.mm_base.specs.Numbers.{bytes_of_word, bytes_of_words}
-use Rattle.mm_text.specs.Adds.{Adds}
+use Rattle.mm_text.specs.AddsInside.{Adds}
 use Rattle.mm_base.specs.declared.entry.Entry.{Entry}
 use Rattle.mm_base.specs.declared.volume.File.{File}
 use Rattle.file_words.specs.declared.file_word.FileWord.{FileWord}

@@ -1,4 +1,4 @@
-pub mod Adds
+pub mod AddsInside
 pub mod Fields
 pub mod Limits
 pub mod LineReaderInside

@@ -32,7 +32,7 @@ use Rattle.mm_base.specs.declared.volume.Volume.{Volume}
 use Rattle.mm_core.specs.CommunicateHeader.{is_lawful}
 use Rattle.file_words.specs.declared.file_word.FileWord.{FileWord}
 use Rattle.mm_text.specs.VolumeLines.{volume_line, files_lines}
-use Rattle.mm_text.specs.declared.report_text.Parts.{Parts}
+use Rattle.mm_text.specs.declared.parts.Parts.{Parts}
 
 -- a word of 64 bits as sixteen hexadecimal digits, the highest first
 unfoldable pub x16 : ℕ → List ℕ
@@ -126,14 +126,14 @@ shape_line (Dispatched guid) = codes "  dispatched " ++ guid_text guid ++ codes 
 
 -- How many words of its lane were loaded for a request: the length word, and where its length is lawful the data words that
 -- hold so many bytes.
-abbrev pub loads : Request → ℕ
-loads request = if is_lawful request then 1 + words_for request.length else 1
+abbrev pub load_count : Request → ℕ
+load_count request = if is_lawful request then 1 + words_for request.length else 1
 
 -- the first line of entry k
 unfoldable pub entry_line : ℕ → Entry → List ℕ
 entry_line k entry =
     codes "entry " ++ decimal k ++ codes " lane " ++ decimal entry.request.lane ++ codes " loads "
-    ++ decimal (loads entry.request) ++ codes " status " ++ x16 entry.outcome.status ++ codes "\n"
+    ++ decimal (load_count entry.request) ++ codes " status " ++ x16 entry.outcome.status ++ codes "\n"
 
 -- the line of a request: its length word, and the bytes that were captured
 unfoldable pub request_line : Request → List ℕ
@@ -182,6 +182,10 @@ pub record Reported : Type 0 where
   pub words : Option (List FileWord)
   pub entries : Option (List Entry)
   pub lanes : Option (List (List ℕ))
+
+-- no part is there
+abbrev pub nothing_reported : Reported
+nothing_reported = record { volume = None; words = None; entries = None; lanes = None }
 
 -- the files of a volume, if it is there
 abbrev pub files_of : Option Volume → List File

@@ -10,6 +10,7 @@ mod line;
 mod line_end;
 mod line_reader;
 mod page;
+mod parts;
 mod record_text;
 mod registers;
 mod report_text;
@@ -19,6 +20,7 @@ mod text_end;
 mod volume_text;
 
 pub use line::{CellKind, Keyword, Line, Named};
-pub use report_text::{Parts, report};
+pub use parts::Parts;
+pub use report_text::report;
 pub use script_reader::read_script;
 pub use text_end::{TextEnd, TextFault};

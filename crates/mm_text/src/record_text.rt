@@ -1,7 +1,7 @@
 //! The lines of an invocation: how it ended, what it was denied, and what it wrote.
 ghost use Rattle.std.specs.Prelude.{◌≡◌, ◌++◌, OnOk};
 ghost use Rattle.std.specs.List.{flat_map};
-ghost use Rattle.mm_text.specs.Adds.{Adds};
+ghost use Rattle.mm_text.specs.AddsInside.{Adds};
 ghost use Rattle.mm_text.specs.Report.{x16, kind_word, right_word, fault_word, why_words, end_words, denial_line, write_line, end_line, invocation_lines};
 
 use crate::page::Page;

@@ -4,29 +4,17 @@ ghost use Rattle.std.specs.List.{flat_map};
 ghost use Rattle.std.specs.Option.{option_copied};
 ghost use Rattle.hex.specs.Hex.{encode_lower};
 ghost use Rattle.mm_base.specs.Numbers.{bytes_of_word, bytes_of_words};
-ghost use Rattle.mm_text.specs.Adds.{Adds};
+ghost use Rattle.mm_text.specs.AddsInside.{Adds};
 ghost use Rattle.mm_text.specs.Report.{bytes_text, entries_lines, lane_line, lanes_lines, part_lines, files_of, report_of, reported, HaveFrontWords, StandBeside};
 ghost use Rattle.mm_text.specs.VolumeLines.{volume_line, files_lines};
 
 use crate::entry_text::put_entry;
 use crate::page::Page;
+use crate::parts::Parts;
 use crate::volume_text::{put_files, put_volume};
 use mm_base::{Bytes, Entries, Entry, List, NoMemory, Volume};
 use mm_core::FileWord;
 use std::alloc::Global;
-
-/// What a command reports. The report has the lines of the parts that are there.
-#[derive(Clone, Copy)]
-pub struct Parts<'a> {
-    /// The volume.
-    pub volume: Option<&'a Volume>,
-    /// What each of its files is taken for.
-    pub words: Option<&'a List<FileWord>>,
-    /// The entries, in recorded order.
-    pub entries: Option<&'a Entries>,
-    /// All words of each lane: the length, the status, and then the data.
-    pub lanes: Option<&'a List<List<u64>>>,
-}
 
 /// The report of these parts. It costs as many steps as the text has bytes, and a reference an entry.
 pub fn report(alloc: Global, parts: &Parts) -> Result<Bytes, NoMemory>
@@ -161,7 +149,7 @@ fn put_each_word(page: &mut Page, words: &[u64]) -> Result<(), NoMemory>
     ensures { OnOk result (Adds page.old (flat_map (λ word. encode_lower (bytes_of_word word)) words.now) page.new) }
 {
     for word in words {
-        page.put_hex(&word.to_le_bytes())?;
+        page.put_word(*word)?;
     }
     Ok(())
 }
