@@ -9,6 +9,7 @@ ghost use Rattle.mmi_registry.specs.Handlers.{chain_of};
 ghost use Rattle.protocol_db.specs.Rows.{AreApart, is_of_guid, owned_by};
 ghost use Rattle.supervisor_calls.specs.Accesses.{decided};
 
+use crate::access::Access;
 use crate::tables::Tables;
 use mm_base::{Frames, Guid, Handler, Homes, Kind, Policy, Range, Region, Right, Verdict};
 
@@ -102,7 +103,12 @@ impl<F: Frames> Tables<F> {
     pub fn verdict(&self, image: u32, kind: Kind, unit: u64, right: Right) -> Verdict
         ensures { result ≡ decided self.now.site image kind unit 1 right 0 }
     {
-        self.guard
-            .decide(&self.images, image, kind, unit, 1, right, 0)
+        let access = Access {
+            kind,
+            right,
+            at: unit,
+            n: 1,
+        };
+        self.decide(image, access, 0)
     }
 }
