@@ -4,7 +4,8 @@ ghost use Rattle.std.specs.Fmt.{decimal};
 ghost use Rattle.hex.specs.Hex.{encode_lower};
 ghost use Rattle.mm_base.specs.Numbers.{bytes_of_word};
 ghost use Rattle.mm_text.specs.AddsInside.{Adds};
-ghost use Rattle.mm_text.specs.Report.{x16, bytes_text};
+ghost use Rattle.mm_text.specs.RecordLines.{x16};
+ghost use Rattle.mm_text.specs.Report.{bytes_text};
 ghost use Rattle.mm_text.specs.VolumeLines.{x8};
 
 use itoa::Buffer;
@@ -70,7 +71,7 @@ impl Page {
     }
 
     /// Puts a word as sixteen hexadecimal digits at the end.
-    #[tactic(auto, unfolding(crate::specs::Report::x16))]
+    #[tactic(auto, unfolding(crate::specs::RecordLines::x16))]
     pub fn put_x16(&mut self, word: u64) -> Result<(), NoMemory>
         ensures { OnOk result (Adds self.old (x16 word) self.new) }
     {

@@ -2,8 +2,20 @@
 ghost use Rattle.std.specs.Prelude.{◌≡◌};
 ghost use Rattle.mm_text.specs.Report.{reported, nothing_reported};
 
-use mm_base::{Entries, List, Volume};
+use driver_start::StartRecord;
+use mm_base::{Entries, Guid, List, Policy, Volume};
 use mm_core::FileWord;
+
+/// What is there at lock.
+#[derive(Debug, Drop)]
+pub struct Locked {
+    /// The name of each image, in their order.
+    pub names: List<Guid>,
+    /// How many handlers there are.
+    pub handlers: u32,
+    /// How many protocols there are.
+    pub protocols: u32,
+}
 
 /// What a command reports. The report has the lines of the parts that are there.
 #[derive(Clone, Copy)]
@@ -12,6 +24,14 @@ pub struct Parts<'a> {
     pub volume: Option<&'a Volume>,
     /// What each of its files is taken for.
     pub words: Option<&'a List<FileWord>>,
+    /// The policy of a boot. It is told where the starts are.
+    pub policy: Option<&'a Policy>,
+    /// The starts of drivers, in their order.
+    pub starts: Option<&'a List<StartRecord>>,
+    /// The names of the drivers that were never scheduled, in the order of the volume.
+    pub waiting: Option<&'a List<Guid>>,
+    /// What is there at lock.
+    pub locked: Option<&'a Locked>,
     /// The entries, in recorded order.
     pub entries: Option<&'a Entries>,
     /// All words of each lane: the length, the status, and then the data.
@@ -27,6 +47,10 @@ impl<'a> Parts<'a> {
         Parts {
             volume: None,
             words: None,
+            policy: None,
+            starts: None,
+            waiting: None,
+            locked: None,
             entries: None,
             lanes: None,
         }
