@@ -1,17 +1,17 @@
 -- What a run of the program makes of a volume.
-use Rattle.std.specs.Prelude.{◌≡◌, ℕ, List, [], ◌∷◌, Option, Some, None}
+use Rattle.std.specs.Prelude.{◌≡◌, ℕ, List, [], ◌∷◌, Option, Some}
 use Rattle.mm_base.specs.declared.policy.Policy.{Policy}
 use Rattle.mm_base.specs.declared.volume.Volume.{Volume}
 use Rattle.volume_reader.specs.VolumeGrammar.{IsVolume}
 use Rattle.file_words.specs.Catalog.{AreWords}
 use Rattle.file_words.specs.declared.file_word.FileWord.{FileWord}
-use Rattle.mm_text.specs.Report.{report_of}
+use Rattle.mm_text.specs.Report.{report_of, nothing_reported}
 use Rattle.volume_policy.specs.PolicyFiles.{IsVolumePolicy}
 
 -- the report of a volume and the words of its files
 abbrev pub volume_report : Volume → List FileWord → List ℕ
 volume_report volume words =
-    report_of (record { volume = Some volume; words = Some words; entries = None; lanes = None })
+    report_of (record nothing_reported { volume = Some volume; words = Some words })
 
 -- This is the report of the volume that bytes are: its line, and a line for each of its files with the file's word. Its
 -- policy is lawful, where it has one.

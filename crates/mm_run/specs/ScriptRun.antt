@@ -1,5 +1,5 @@
 -- What a run of the program makes of a script.
-use Rattle.std.specs.Prelude.{◌≡◌, ℕ, zero, suc, ◌+◌, List, [], ◌∷◌, map, true, Some, None}
+use Rattle.std.specs.Prelude.{◌≡◌, ℕ, zero, suc, ◌+◌, List, [], ◌∷◌, map, true, Some}
 use Rattle.std.specs.List.{range_with_len}
 use Rattle.mm_base.specs.Replay.{replayed}
 use Rattle.mm_base.specs.declared.entry.Entry.{Entry}
@@ -8,7 +8,7 @@ use Rattle.comm_core.specs.declared.script.Script.{Script}
 use Rattle.mm_core.specs.CoreState.{CoreState}
 use Rattle.mm_core.specs.EntryStep.{core_step}
 use Rattle.mm_core.specs.Scripted.{core_of_script}
-use Rattle.mm_text.specs.Report.{report_of}
+use Rattle.mm_text.specs.Report.{report_of, nothing_reported}
 use Rattle.mm_text.specs.ScriptText.{IsScript}
 
 -- the core of a script: the version handler, the script's stubs, and its opening cells
@@ -36,7 +36,7 @@ lanes_of core script =
 -- the report of entries and lanes
 abbrev pub run_report : List Entry → List (List ℕ) → List ℕ
 run_report entries lanes =
-    report_of (record { volume = None; words = None; entries = Some entries; lanes = Some lanes })
+    report_of (record nothing_reported { entries = Some entries; lanes = Some lanes })
 
 -- the report of a script that is run from this core
 unfoldable pub report_for : CoreState → Script → List ℕ

@@ -39,8 +39,7 @@ fn listed<'a>(
     let parts = Parts {
         volume: Some(volume),
         words: Some(words),
-        entries: None,
-        lanes: None,
+        ..Parts::none()
     };
     report(alloc, &parts)
 }

@@ -36,10 +36,9 @@ fn driven(alloc: Global, script: &Script) -> Result<Made, NoMemory>
     let world = driven_world(alloc, script)?;
     let lanes = words_of_lanes(alloc, &world)?;
     let parts = Parts {
-        volume: None,
-        words: None,
         entries: Some(world.entries()),
         lanes: Some(&lanes),
+        ..Parts::none()
     };
     let text = report(alloc, &parts)?;
     Ok(Made {

@@ -3,6 +3,8 @@
 #![tactic(auto)]
 
 #[cfg(test)]
+mod boot_texts;
+#[cfg(test)]
 mod checks;
 #[cfg(test)]
 mod driver_words;

@@ -119,10 +119,9 @@ fn records_and_registers(rt: HostRuntime) -> Result<(), Fail> {
     entries.join(one(alloc, 25, &[], Saved::ZERO, second)?);
     let lanes = lane_of(alloc, &[25, 0x8000_0000_0000_000e])?;
     let parts = Parts {
-        volume: None,
-        words: None,
         entries: Some(&entries),
         lanes: Some(&lanes),
+        ..Parts::none()
     };
     let text = report(alloc, &parts)?;
     assert_eq!(rt;
@@ -183,10 +182,8 @@ fn ends_of_invocations(rt: HostRuntime) -> Result<(), Fail> {
     told.chain = chain_of_ends(alloc)?;
     let entries = one(alloc, 24, &[7; 24], Saved::ZERO, told)?;
     let parts = Parts {
-        volume: None,
-        words: None,
         entries: Some(&entries),
-        lanes: None,
+        ..Parts::none()
     };
     let text = report(alloc, &parts)?;
     assert_eq!(rt;

@@ -10,7 +10,7 @@ use Rattle.mm_base.specs.declared.handler.Handler.{Handler as Registered}
 use Rattle.mm_base.specs.declared.handler.HandlerBody.TheVariants.{Stub}
 use Rattle.mm_core.specs.Scripted.{numbered}
 use Rattle.mm_text.specs.Fields.{keyword_of}
-use Rattle.mm_text.specs.ScriptText.{is_event, has_none, may_stand, lanes_in, words_in, is_handler, is_ring, are_distinct, is_in_range, events_of, cells_of, stubs_of, script_of}
+use Rattle.mm_text.specs.ScriptText.{is_event, has_none, may_stand, lane_count, word_count, is_handler, is_ring, are_distinct, is_in_range, events_of, cells_of, stubs_of, script_of}
 use Rattle.mm_text.specs.ScriptReaderInside.{phase_of, is_empty, is_opening, stands_in, are_registers, accepts, happened, behind, built, IsSmall, StandsFor}
 use Rattle.mm_text.specs.declared.line.CellKind.{CellKind}
 use Rattle.mm_text.specs.declared.line.Keyword.{Keyword}
@@ -68,14 +68,14 @@ accepts-in_range lines builder s (Lanes lanes words) = refl
 accepts-in_range lines builder s (Cell kind at value) = refl
 accepts-in_range lines builder s (Handler guid status) = ap (λ n. nat_lt n 64) s.count
 accepts-in_range lines builder s (Poke lane word value) =
-    ap (λ n. nat_lt lane n && nat_lt word (builder.words + 2)) s.lanes ∙ ap (λ n. nat_lt lane (lanes_in lines) && nat_lt word (n + 2)) s.words
+    ap (λ n. nat_lt lane n && nat_lt word (builder.words + 2)) s.lanes ∙ ap (λ n. nat_lt lane (lane_count lines) && nat_lt word (n + 2)) s.words
 accepts-in_range lines builder s (Fill lane bytes) =
     ap (λ n. nat_lt lane n && nat_le 1 (length bytes) && nat_le (length bytes) (8 * builder.words)) s.lanes
-    ∙ ap (λ n. nat_lt lane (lanes_in lines) && nat_le 1 (length bytes) && nat_le (length bytes) (8 * n)) s.words
+    ∙ ap (λ n. nat_lt lane (lane_count lines) && nat_le 1 (length bytes) && nat_le (length bytes) (8 * n)) s.words
 accepts-in_range lines builder s (Ring lane registers) =
     ap (λ n. nat_lt lane n && are_registers registers && nat_lt builder.rings 8192) s.lanes
-    ∙ ap (λ n. nat_lt lane (lanes_in lines) && are_registers registers && nat_lt n 8192) s.rings
-    ∙ and_regroup (nat_lt lane (lanes_in lines)) (list_all (λ named. nat_lt named.register 19) registers) (are_distinct registers)
+    ∙ ap (λ n. nat_lt lane (lane_count lines) && are_registers registers && nat_lt n 8192) s.rings
+    ∙ and_regroup (nat_lt lane (lane_count lines)) (list_all (λ named. nat_lt named.register 19) registers) (are_distinct registers)
     (nat_lt (count_by (λ line. is_ring (keyword_of line)) lines) 8192)
 accepts-in_range lines builder s (Step lane) = ap (λ n. nat_lt lane n) s.lanes
 accepts-in_range lines builder s (Steps lane count) = ap (λ n. nat_lt lane n && nat_le 1 count && nat_le count 2048) s.lanes
@@ -103,13 +103,13 @@ none_pushed : (lines : List Line) (line : Line) → has_none (lines ++ line ∷ 
 none_pushed [] line = refl
 none_pushed (first ∷ lines) line = refl
 
-pub lanes_in-push : (lines : List Line) (line : Line) → has_none lines ≡ false → lanes_in (lines ++ line ∷ []) ≡ lanes_in lines
-lanes_in-push [] line e = absurd (false≢true (sym e))
-lanes_in-push (first ∷ lines) line e = refl
+pub lane_count-push : (lines : List Line) (line : Line) → has_none lines ≡ false → lane_count (lines ++ line ∷ []) ≡ lane_count lines
+lane_count-push [] line e = absurd (false≢true (sym e))
+lane_count-push (first ∷ lines) line e = refl
 
-pub words_in-push : (lines : List Line) (line : Line) → has_none lines ≡ false → words_in (lines ++ line ∷ []) ≡ words_in lines
-words_in-push [] line e = absurd (false≢true (sym e))
-words_in-push (first ∷ lines) line e = refl
+pub word_count-push : (lines : List Line) (line : Line) → has_none lines ≡ false → word_count (lines ++ line ∷ []) ≡ word_count lines
+word_count-push [] line e = absurd (false≢true (sym e))
+word_count-push (first ∷ lines) line e = refl
 
 phase-pushed : (lines : List Line) (line : Line) (t : Bool) → (quiet lines && not (is_event (keyword_of line))) ≡ t
     → phase_of (lines ++ line ∷ []) ≡ (if t then Opening else Happening)
@@ -193,8 +193,8 @@ stands-happened : (lines : List Line) (builder : ScriptBuilder) (line : Line) �
     → StandsFor (lines ++ line ∷ []) (happened builder (events_of line))
 stands-happened lines builder line s some event no_handler no_ring no_cells no_stubs = record {
   phase = sym (phase-happening lines line event);
-  lanes = s.lanes ∙ sym (lanes_in-push lines line some);
-  words = s.words ∙ sym (words_in-push lines line some);
+  lanes = s.lanes ∙ sym (lane_count-push lines line some);
+  words = s.words ∙ sym (word_count-push lines line some);
   cells = flat_map-same cells_of lines line builder.cells s.cells no_cells;
   handlers = handlers-same lines line builder.handlers s.handlers no_stubs;
   count = count-same (λ x. is_handler (keyword_of x)) lines line (length builder.handlers) s.count no_handler;
@@ -208,8 +208,8 @@ stands-ring lines builder lane registers s some =
     let line : Line = Ring lane registers in
     record {
       phase = sym (phase-happening lines line refl);
-      lanes = s.lanes ∙ sym (lanes_in-push lines line some);
-      words = s.words ∙ sym (words_in-push lines line some);
+      lanes = s.lanes ∙ sym (lane_count-push lines line some);
+      words = s.words ∙ sym (word_count-push lines line some);
       cells = flat_map-same cells_of lines line builder.cells s.cells refl;
       handlers = handlers-same lines line builder.handlers s.handlers refl;
       count = count-same (λ x. is_handler (keyword_of x)) lines line (length builder.handlers) s.count refl;
@@ -242,8 +242,8 @@ stands-cell lines builder kind at value s may =
     let opened = open_of lines may in
     record {
       phase = s.phase ∙ opening_of lines (phase-opening lines ∙ may) ∙ sym (phase-still_opening lines line opened.calm refl);
-      lanes = s.lanes ∙ sym (lanes_in-push lines line opened.some);
-      words = s.words ∙ sym (words_in-push lines line opened.some);
+      lanes = s.lanes ∙ sym (lane_count-push lines line opened.some);
+      words = s.words ∙ sym (word_count-push lines line opened.some);
       cells = flat_map-more cells_of lines line builder.cells s.cells;
       handlers = handlers-same lines line builder.handlers s.handlers refl;
       count = count-same (λ x. is_handler (keyword_of x)) lines line (length builder.handlers) s.count refl;
@@ -259,8 +259,8 @@ stands-handler lines builder guid status s may =
     let stub : Registered = record { number = length builder.handlers + 1; guid = guid; body = Stub status } in
     record {
       phase = s.phase ∙ opening_of lines (phase-opening lines ∙ may) ∙ sym (phase-still_opening lines line opened.calm refl);
-      lanes = s.lanes ∙ sym (lanes_in-push lines line opened.some);
-      words = s.words ∙ sym (words_in-push lines line opened.some);
+      lanes = s.lanes ∙ sym (lane_count-push lines line opened.some);
+      words = s.words ∙ sym (word_count-push lines line opened.some);
       cells = flat_map-same cells_of lines line builder.cells s.cells refl;
       handlers = handlers-more lines guid status builder.handlers s.handlers;
       count = length-append builder.handlers (stub ∷ []) ∙ count-more (λ x. is_handler (keyword_of x)) lines line (length builder.handlers) s.count refl;
@@ -301,8 +301,8 @@ pub built-script : (lines : List Line) (builder : ScriptBuilder) → StandsFor l
 unfolding script_of
 built-script lines builder s =
     ap (λ n. record (built builder) { lanes = n }) s.lanes
-    ∙ ap (λ n. record (built builder) { lanes = lanes_in lines; words = n }) s.words
-    ∙ ap (λ x. record (built builder) { lanes = lanes_in lines; words = words_in lines; opening = record { cells = x } }) s.cells
+    ∙ ap (λ n. record (built builder) { lanes = lane_count lines; words = n }) s.words
+    ∙ ap (λ x. record (built builder) { lanes = lane_count lines; words = word_count lines; opening = record { cells = x } }) s.cells
     ∙ ap (λ x. record (script_of lines) { handlers = x; events = builder.events }) s.handlers
     ∙ ap (λ x. record (script_of lines) { events = x }) s.events
 

@@ -16,7 +16,7 @@ use Rattle.mm_text.specs.LineReaderInside.{split_at, decimal_in, hexadecimal_in,
 use Rattle.mm_text.specs.declared.line.CellKind.{CellKind}
 use Rattle.mm_text.specs.declared.line.CellKind.TheVariants as cells
 use Rattle.mm_text.specs.declared.line.Named.{Named}
-use Rattle.mm_text.proofs.NumberLemmas.{split_at-is, split_at-first, split_at-none, digits-clean, number_in-spelled, number_in-is}
+use Rattle.mm_text.proofs.NumberLemmas.{split_at-is, split_at-first, split_at-none, digits-clean, digits_in-spelled, digits_in-is}
 
 -- the first of two steps that gave something, and the second
 pub record Stepped {A B : Type 0} (first : Option A) (more : A → Option B) (answer : B) : Type 0 where
@@ -114,8 +114,8 @@ pair_in-is named word e =
       first = halves.value.0;
       second = halves.value.1;
       whole = (split_at-is 61 word halves.value.0 halves.value.1 halves.one).whole;
-      one = number_in-is 10 10 register.value halves.value.0 register.one;
-      other = number_in-is 16 16 value.value halves.value.1 value.one;
+      one = digits_in-is 10 10 register.value halves.value.0 register.one;
+      other = digits_in-is 16 16 value.value halves.value.1 value.one;
     })
 
 pub pair_in-spelled : (named : Named) (word : List ℕ) → SpellsField (Pair named) word → pair_in word ≡ Some named
@@ -124,8 +124,8 @@ pair_in-spelled named word s =
     ap (λ w. option_and_then pair_by (split_at 61 w)) s.whole
     ∙ ap (option_and_then pair_by) (split_at-first 61 s.first s.second (digits-clean 10 61 (omega arith) s.first s.one.digits))
     ∙ ap (λ r. option_and_then (λ register. option_and_then (λ value. Some (record { register = register; value = value })) (hexadecimal_in s.second)) r)
-    (number_in-spelled 10 10 named.register s.first s.one)
-    ∙ ap (λ v. option_and_then (λ value. Some (record { register = named.register; value = value })) v) (number_in-spelled 16 16 named.value s.second s.other)
+    (digits_in-spelled 10 10 named.register s.first s.one)
+    ∙ ap (λ v. option_and_then (λ value. Some (record { register = named.register; value = value })) v) (digits_in-spelled 16 16 named.value s.second s.other)
 
 -- a word with a `=` has one
 equals_by : (word : List ℕ) (split : Option (List ℕ × List ℕ)) → split_at 61 word ≡ split → is_some split ≡ true → Contains word 61

@@ -17,8 +17,8 @@ use Rattle.comm_core.specs.declared.script.Script.{Script}
 use Rattle.mm_text.specs.Fields.{keyword_of}
 use Rattle.comm_core.specs.WorldReadiness.{IsOfWorld}
 use Rattle.mm_text.specs.Limits.{IsWithinLimits}
-use Rattle.mm_text.specs.ScriptText.{lines_of, said_in, is_event, has_none, may_stand, lanes_in, words_in, kind_of, place_of, is_handler, is_ring, are_distinct, is_in_range, Says, IsAccepted, pokes, saved_of, events_of, cells_of, stubs_of, script_of, IsScript}
-use Rattle.mm_text.proofs.BuilderLemmas.{lanes_in-push, words_in-push, flat_map-push, count_by-push, length-numbered}
+use Rattle.mm_text.specs.ScriptText.{lines_of, said_in, is_event, has_none, may_stand, lane_count, word_count, kind_of, place_of, is_handler, is_ring, are_distinct, is_in_range, Says, IsAccepted, pokes_from, saved_of, events_of, cells_of, stubs_of, script_of, IsScript}
+use Rattle.mm_text.proofs.BuilderLemmas.{lane_count-push, word_count-push, flat_map-push, count_by-push, length-numbered}
 use Rattle.mm_text.proofs.SaysLemmas.{some-at, take-some}
 use Rattle.mm_text.specs.declared.line.CellKind.{CellKind}
 use Rattle.mm_text.specs.declared.line.Line.{Line}
@@ -41,11 +41,11 @@ record IsSized (lanes words : ℕ) : Type 0 where
 
 -- what lines that are accepted one by one say is within the limits
 record IsBounded (lines : List Line) : Type 0 where
-  sized : has_none lines ≡ false → IsSized (lanes_in lines) (words_in lines)
+  sized : has_none lines ≡ false → IsSized (lane_count lines) (word_count lines)
   cells : All IsOpeningCell (flat_map cells_of lines)
   few : count_by handles lines ≤ 64
   rung : count_by rings lines ≤ 8192
-  events : All (IsOfWorld (lanes_in lines) (words_in lines)) (flat_map events_of lines)
+  events : All (IsOfWorld (lane_count lines) (word_count lines)) (flat_map events_of lines)
 
 bounded-none : IsBounded []
 bounded-none = record {
@@ -82,16 +82,16 @@ bounded-lanes [] lanes words none inside = record {
 count-within : (p : Line → Bool) (lines : List Line) (line : Line) (most : ℕ) → count_by p lines + cond (p line) 1 0 ≤ most → count_by p (lines ++ line ∷ []) ≤ most
 count-within p lines line most h = subst (λ n. n ≤ most) (sym (count_by-push p lines line)) h
 
-events-within : (before : List Line) (line : Line) → has_none before ≡ false → All (IsOfWorld (lanes_in before) (words_in before)) (flat_map events_of before)
-    → All (IsOfWorld (lanes_in before) (words_in before)) (events_of line)
-    → All (IsOfWorld (lanes_in (before ++ line ∷ [])) (words_in (before ++ line ∷ []))) (flat_map events_of (before ++ line ∷ []))
+events-within : (before : List Line) (line : Line) → has_none before ≡ false → All (IsOfWorld (lane_count before) (word_count before)) (flat_map events_of before)
+    → All (IsOfWorld (lane_count before) (word_count before)) (events_of line)
+    → All (IsOfWorld (lane_count (before ++ line ∷ [])) (word_count (before ++ line ∷ []))) (flat_map events_of (before ++ line ∷ []))
 events-within before line some old more =
-    let P : List Event → Type 0 = λ events. All (IsOfWorld (lanes_in before) (words_in before)) events in
-    let Q : ℕ → Type 0 = λ n. All (IsOfWorld n (words_in before)) (flat_map events_of (before ++ line ∷ [])) in
-    let R : ℕ → Type 0 = λ n. All (IsOfWorld (lanes_in (before ++ line ∷ [])) n) (flat_map events_of (before ++ line ∷ [])) in
-    subst R (sym (words_in-push before line some))
-    (subst Q (sym (lanes_in-push before line some))
-    (subst P (sym (flat_map-push events_of before line)) (All-append (IsOfWorld (lanes_in before) (words_in before)) (flat_map events_of before) (events_of line) old more)))
+    let P : List Event → Type 0 = λ events. All (IsOfWorld (lane_count before) (word_count before)) events in
+    let Q : ℕ → Type 0 = λ n. All (IsOfWorld n (word_count before)) (flat_map events_of (before ++ line ∷ [])) in
+    let R : ℕ → Type 0 = λ n. All (IsOfWorld (lane_count (before ++ line ∷ [])) n) (flat_map events_of (before ++ line ∷ [])) in
+    subst R (sym (word_count-push before line some))
+    (subst Q (sym (lane_count-push before line some))
+    (subst P (sym (flat_map-push events_of before line)) (All-append (IsOfWorld (lane_count before) (word_count before)) (flat_map events_of before) (events_of line) old more)))
 
 -- what a line behind the first adds
 record IsBounding (before : List Line) (line : Line) : Type 0 where
@@ -99,15 +99,15 @@ record IsBounding (before : List Line) (line : Line) : Type 0 where
   cells : All IsOpeningCell (cells_of line)
   few : count_by handles before + cond (handles line) 1 0 ≤ 64
   rung : count_by rings before + cond (rings line) 1 0 ≤ 8192
-  events : All (IsOfWorld (lanes_in before) (words_in before)) (events_of line)
+  events : All (IsOfWorld (lane_count before) (word_count before)) (events_of line)
 
 bounded-later : (before : List Line) (line : Line) → IsBounded before → IsBounding before line → IsBounded (before ++ line ∷ [])
 bounded-later before line b m =
     let P : List CellWrite → Type 0 = λ cells. All IsOpeningCell cells in
-    let Q : ℕ → Type 0 = λ n. IsSized n (words_in before) in
-    let R : ℕ → Type 0 = λ n. IsSized (lanes_in (before ++ line ∷ [])) n in
+    let Q : ℕ → Type 0 = λ n. IsSized n (word_count before) in
+    let R : ℕ → Type 0 = λ n. IsSized (lane_count (before ++ line ∷ [])) n in
     record {
-      sized = λ some. subst R (sym (words_in-push before line m.some)) (subst Q (sym (lanes_in-push before line m.some)) (b.sized m.some));
+      sized = λ some. subst R (sym (word_count-push before line m.some)) (subst Q (sym (lane_count-push before line m.some)) (b.sized m.some));
       cells = subst P (sym (flat_map-push cells_of before line)) (All-append IsOpeningCell (flat_map cells_of before) (cells_of line) b.cells m.cells);
       few = count-within handles before line 64 m.few;
       rung = count-within rings before line 8192 m.rung;
@@ -125,7 +125,7 @@ one_event lanes words e h = All-cons (IsOfWorld lanes words) e [] h (All-nil (Is
 
 -- a line that says one event which is no ring
 bounding-event : (before : List Line) (line : Line) → IsBounded before → has_none before ≡ false → handles line ≡ false → rings line ≡ false → cells_of line ≡ []
-    → All (IsOfWorld (lanes_in before) (words_in before)) (events_of line) → IsBounding before line
+    → All (IsOfWorld (lane_count before) (word_count before)) (events_of line) → IsBounding before line
 bounding-event before line b some h r no_cells events =
     let P : Bool → Type 0 = λ t. count_by handles before + cond t 1 0 ≤ 64 in
     let Q : Bool → Type 0 = λ t. count_by rings before + cond t 1 0 ≤ 8192 in
@@ -142,26 +142,26 @@ length-first_words : (n : ℕ) (bytes : List ℕ) → length (first_words n byte
 length-first_words zero bytes = refl
 length-first_words (suc n) bytes = ap suc (length-first_words n _)
 
-pokes-within : (lanes words lane word : ℕ) (values : List ℕ) → lane < lanes → word + length values ≤ words + 2 → All (IsOfWorld lanes words) (pokes lane word values)
-pokes-within lanes words lane word [] there h = All-nil (IsOfWorld lanes words)
-pokes-within lanes words lane word (value ∷ values) there h =
+pokes_from-within : (lanes words lane word : ℕ) (values : List ℕ) → lane < lanes → word + length values ≤ words + 2 → All (IsOfWorld lanes words) (pokes_from lane word values)
+pokes_from-within lanes words lane word [] there h = All-nil (IsOfWorld lanes words)
+pokes_from-within lanes words lane word (value ∷ values) there h =
     let here : word < words + 2 = omega arith in
     let rest : (word + 1) + length values ≤ words + 2 = omega arith in
-    All-cons (IsOfWorld lanes words) (event.Poke lane word value) (pokes lane (word + 1) values) (there, here) (pokes-within lanes words lane (word + 1) values there rest)
+    All-cons (IsOfWorld lanes words) (event.Poke lane word value) (pokes_from lane (word + 1) values) (there, here) (pokes_from-within lanes words lane (word + 1) values there rest)
 
 fill-within : (lanes words lane : ℕ) (bytes : List ℕ) → lane < lanes → length bytes ≤ 8 * words → All (IsOfWorld lanes words) (events_of (Fill lane bytes))
 fill-within lanes words lane bytes there h =
     let none : 0 < words + 2 = omega arith in
     let few : 2 + length (words_of_bytes bytes) ≤ words + 2 = omega (arith, length-first_words (words_for (length bytes)) bytes) in
-    All-append (IsOfWorld lanes words) (pokes lane 2 (words_of_bytes bytes)) (event.Poke lane 0 (length bytes) ∷ [])
-    (pokes-within lanes words lane 2 (words_of_bytes bytes) there few)
+    All-append (IsOfWorld lanes words) (pokes_from lane 2 (words_of_bytes bytes)) (event.Poke lane 0 (length bytes) ∷ [])
+    (pokes_from-within lanes words lane 2 (words_of_bytes bytes) there few)
     (one_event lanes words (event.Poke lane 0 (length bytes)) (there, none))
 
 bounding-fill : (before : List Line) (lane : ℕ) (bytes : List ℕ) → IsBounded before → has_none before ≡ false → is_in_range before (Fill lane bytes) ≡ true
     → IsBounding before (Fill lane bytes)
 bounding-fill before lane bytes b some inside =
-    let lanes = lanes_in before in
-    let words = words_in before in
+    let lanes = lane_count before in
+    let words = word_count before in
     let a = and_parts (nat_lt lane lanes && nat_le 1 (length bytes)) (nat_le (length bytes) (8 * words)) inside in
     let d = and_parts (nat_lt lane lanes) (nat_le 1 (length bytes)) a.0 in
     bounding-event before (Fill lane bytes) b some refl refl refl
@@ -170,23 +170,23 @@ bounding-fill before lane bytes b some inside =
 bounding-poke : (before : List Line) (lane word value : ℕ) → IsBounded before → has_none before ≡ false → is_in_range before (Poke lane word value) ≡ true
     → IsBounding before (Poke lane word value)
 bounding-poke before lane word value b some inside =
-    let a = and_parts (nat_lt lane (lanes_in before)) (nat_lt word (words_in before + 2)) inside in
+    let a = and_parts (nat_lt lane (lane_count before)) (nat_lt word (word_count before + 2)) inside in
     bounding-event before (Poke lane word value) b some refl refl refl
-    (one_event (lanes_in before) (words_in before) (event.Poke lane word value) (ltb-true lane (lanes_in before) a.0, ltb-true word (words_in before + 2) a.1))
+    (one_event (lane_count before) (word_count before) (event.Poke lane word value) (ltb-true lane (lane_count before) a.0, ltb-true word (word_count before + 2) a.1))
 
 bounding-ring : (before : List Line) (lane : ℕ) (registers : List Named) → IsBounded before → has_none before ≡ false → is_in_range before (Ring lane registers) ≡ true
     → IsBounding before (Ring lane registers)
 bounding-ring before lane registers b some inside =
     let there = list_all (λ named. nat_lt named.register 19) registers in
-    let a = and_parts (nat_lt lane (lanes_in before) && there && are_distinct registers) (nat_lt (count_by rings before) 8192) inside in
-    let d = and_parts (nat_lt lane (lanes_in before) && there) (are_distinct registers) a.0 in
-    let f = and_parts (nat_lt lane (lanes_in before)) there d.0 in
+    let a = and_parts (nat_lt lane (lane_count before) && there && are_distinct registers) (nat_lt (count_by rings before) 8192) inside in
+    let d = and_parts (nat_lt lane (lane_count before) && there) (are_distinct registers) a.0 in
+    let f = and_parts (nat_lt lane (lane_count before)) there d.0 in
     record {
       some = some;
       cells = All-nil IsOpeningCell;
       few = add_none (count_by handles before) 64 b.few;
       rung = one_more (count_by rings before) 8192 a.1;
-      events = one_event (lanes_in before) (words_in before) (event.Ring lane (saved_of registers)) (ltb-true lane (lanes_in before) f.0);
+      events = one_event (lane_count before) (word_count before) (event.Ring lane (saved_of registers)) (ltb-true lane (lane_count before) f.0);
     }
 
 bounding-cell : (before : List Line) (kind : CellKind) (at value : ℕ) → IsBounded before → has_none before ≡ false → may_hold (kind_of kind) (place_of kind at) value ≡ true
@@ -196,7 +196,7 @@ bounding-cell before kind at value b some inside = record {
   cells = All-cons IsOpeningCell (record { kind = kind_of kind; at = place_of kind at; n = 1; value = value }) [] (record { one = refl; there = inside }) (All-nil IsOpeningCell);
   few = add_none (count_by handles before) 64 b.few;
   rung = add_none (count_by rings before) 8192 b.rung;
-  events = All-nil (IsOfWorld (lanes_in before) (words_in before));
+  events = All-nil (IsOfWorld (lane_count before) (word_count before));
 }
 
 -- the first line stands in front of those that ask for one
@@ -216,7 +216,7 @@ bounded-more before (Handler guid status) b may inside =
       cells = All-nil IsOpeningCell;
       few = one_more (count_by handles before) 64 inside;
       rung = add_none (count_by rings before) 8192 b.rung;
-      events = All-nil (IsOfWorld (lanes_in before) (words_in before));
+      events = All-nil (IsOfWorld (lane_count before) (word_count before));
     })
 bounded-more before (Poke lane word value) b may inside =
     bounded-later before (Poke lane word value) b (bounding-poke before lane word value b (not-true (has_none before) may) inside)
@@ -226,17 +226,17 @@ bounded-more before (Ring lane registers) b may inside =
 bounded-more before (Step lane) b may inside =
     bounded-later before (Step lane) b
     (bounding-event before (Step lane) b (not-true (has_none before) may) refl refl refl
-    (one_event (lanes_in before) (words_in before) (event.Steps lane 1) (ltb-true lane (lanes_in before) inside)))
+    (one_event (lane_count before) (word_count before) (event.Steps lane 1) (ltb-true lane (lane_count before) inside)))
 bounded-more before (Steps lane count) b may inside =
-    let a = and_parts (nat_lt lane (lanes_in before) && nat_le 1 count) (nat_le count 2048) inside in
-    let d = and_parts (nat_lt lane (lanes_in before)) (nat_le 1 count) a.0 in
+    let a = and_parts (nat_lt lane (lane_count before) && nat_le 1 count) (nat_le count 2048) inside in
+    let d = and_parts (nat_lt lane (lane_count before)) (nat_le 1 count) a.0 in
     bounded-later before (Steps lane count) b
     (bounding-event before (Steps lane count) b (not-true (has_none before) may) refl refl refl
-    (one_event (lanes_in before) (words_in before) (event.Steps lane count) (ltb-true lane (lanes_in before) d.0)))
+    (one_event (lane_count before) (word_count before) (event.Steps lane count) (ltb-true lane (lane_count before) d.0)))
 bounded-more before (Run lane) b may inside =
     bounded-later before (Run lane) b
     (bounding-event before (Run lane) b (not-true (has_none before) may) refl refl refl
-    (one_event (lanes_in before) (words_in before) (event.Run lane) (ltb-true lane (lanes_in before) inside)))
+    (one_event (lane_count before) (word_count before) (event.Run lane) (ltb-true lane (lane_count before) inside)))
 
 bounded-front : (handlers : Bool) (text : List (List ℕ)) (lines : List Line) → Says handlers text lines → (k : ℕ) → k ≤ length lines → IsBounded (take k lines)
 bounded-front handlers text lines s zero h = bounded-none
@@ -298,15 +298,15 @@ stubs_numbered number (handler ∷ handlers) h =
     (stubs_numbered (number + 1) handlers (All-tail (λ x. is_stub x.body ≡ true) handler handlers h))
 
 -- the rings of lines
-pokes-rings : (lane word : ℕ) (values : List ℕ) → sum_by rings_in (pokes lane word values) ≡ 0
-pokes-rings lane word [] = refl
-pokes-rings lane word (value ∷ values) =
-    sum_by-cons rings_in (event.Poke lane word value) (pokes lane (word + 1) values) ∙ ap (λ n. 0 + n) (pokes-rings lane (word + 1) values)
+pokes_from-rings : (lane word : ℕ) (values : List ℕ) → sum_by rings_in (pokes_from lane word values) ≡ 0
+pokes_from-rings lane word [] = refl
+pokes_from-rings lane word (value ∷ values) =
+    sum_by-cons rings_in (event.Poke lane word value) (pokes_from lane (word + 1) values) ∙ ap (λ n. 0 + n) (pokes_from-rings lane (word + 1) values)
 
 fill-rings : (lane : ℕ) (bytes : List ℕ) → sum_by rings_in (events_of (Fill lane bytes)) ≡ 0
 fill-rings lane bytes =
-    sum_by-append rings_in (pokes lane 2 (words_of_bytes bytes)) (event.Poke lane 0 (length bytes) ∷ [])
-    ∙ ap (λ n. n + 0) (pokes-rings lane 2 (words_of_bytes bytes))
+    sum_by-append rings_in (pokes_from lane 2 (words_of_bytes bytes)) (event.Poke lane 0 (length bytes) ∷ [])
+    ∙ ap (λ n. n + 0) (pokes_from-rings lane 2 (words_of_bytes bytes))
 
 rings_one : (line : Line) → sum_by rings_in (events_of line) ≡ cond (rings line) 1 0
 rings_one (Lanes lanes words) = refl

@@ -14,7 +14,7 @@ use Rattle.mm_text.specs.declared.line.Keyword.TheVariants as keyword
 use Rattle.mm_text.specs.declared.line.Line.{Line}
 use Rattle.mm_text.specs.declared.line.Line.TheVariants.{Lanes, Cell, Handler, Poke, Fill, Ring, Step, Steps, Run}
 use Rattle.mm_text.specs.declared.line.Named.{Named}
-use Rattle.mm_text.proofs.NumberLemmas.{and_true, number_in-spelled, number_in-is}
+use Rattle.mm_text.proofs.NumberLemmas.{and_true, digits_in-spelled, digits_in-is}
 use Rattle.mm_text.proofs.FieldLemmas.{worded, stepped, mapped, bytes_in-is, bytes_in-spelled, cells_in-is, cells_in-spelled, owner_in-is, owner_in-spelled, pair_in-is, pair_in-spelled, has_equals-is, has_equals-spelled, spells_field_form}
 
 -- a keyword's word says it
@@ -131,7 +131,7 @@ lanes_in-is (a ∷ b ∷ []) line e =
     let P : Line → Type 0 = λ l. Reads keyword.Lanes (a ∷ b ∷ []) l in
     subst P said.made (record {
       same = refl;
-      spelled = two_fields SpellsField (Decimal said.a) (Decimal said.b) a b (number_in-is 10 10 said.a a said.one) (number_in-is 10 10 said.b b said.other);
+      spelled = two_fields SpellsField (Decimal said.a) (Decimal said.b) a b (digits_in-is 10 10 said.a a said.one) (digits_in-is 10 10 said.b b said.other);
     })
 lanes_in-is (a ∷ b ∷ c ∷ more) line e = absurd (none-some _ e)
 
@@ -140,8 +140,8 @@ lanes_in-spelled : (lanes words : ℕ) (behind : List (List ℕ)) → Each Spell
 unfolding lanes_in
 lanes_in-spelled lanes words behind s =
     ap lanes_in (two_words SpellsField (Decimal lanes) (Decimal words) behind s)
-    ∙ two-said (decimal_in s.first) (decimal_in s.rest.first) Lanes lanes words (number_in-spelled 10 10 lanes s.first s.one)
-    (number_in-spelled 10 10 words s.rest.first s.rest.one)
+    ∙ two-said (decimal_in s.first) (decimal_in s.rest.first) Lanes lanes words (digits_in-spelled 10 10 lanes s.first s.one)
+    (digits_in-spelled 10 10 words s.rest.first s.rest.one)
 
 cell_in-is : (words : List (List ℕ)) (line : Line) → cell_in words ≡ Some line → Reads keyword.Cell words line
 unfolding cell_in
@@ -154,7 +154,7 @@ cell_in-is (a ∷ b ∷ c ∷ []) line e =
     subst P said.made (record {
       same = refl;
       spelled = three_fields SpellsField (Letters (letters_of_cells said.a)) (Hexadecimal said.b) (Hexadecimal said.c) a b c
-          (cells_in-is said.a a said.one) (number_in-is 16 16 said.b b said.other) (number_in-is 16 16 said.c c said.last);
+          (cells_in-is said.a a said.one) (digits_in-is 16 16 said.b b said.other) (digits_in-is 16 16 said.c c said.last);
     })
 cell_in-is (a ∷ b ∷ c ∷ d ∷ more) line e = absurd (none-some _ e)
 
@@ -164,8 +164,8 @@ unfolding cell_in
 cell_in-spelled kind at value behind s =
     ap cell_in (three_words SpellsField (Letters (letters_of_cells kind)) (Hexadecimal at) (Hexadecimal value) behind s)
     ∙ three-said (cells_in s.first) (hexadecimal_in s.rest.first) (hexadecimal_in s.rest.rest.first) Cell kind at value
-    (cells_in-spelled kind s.first s.one) (number_in-spelled 16 16 at s.rest.first s.rest.one)
-    (number_in-spelled 16 16 value s.rest.rest.first s.rest.rest.one)
+    (cells_in-spelled kind s.first s.one) (digits_in-spelled 16 16 at s.rest.first s.rest.one)
+    (digits_in-spelled 16 16 value s.rest.rest.first s.rest.rest.one)
 
 handler_in-is : (words : List (List ℕ)) (line : Line) → handler_in words ≡ Some line → Reads keyword.Handler words line
 unfolding handler_in
@@ -176,7 +176,7 @@ handler_in-is (a ∷ b ∷ []) line e =
     let P : Line → Type 0 = λ l. Reads keyword.Handler (a ∷ b ∷ []) l in
     subst P said.made (record {
       same = refl;
-      spelled = two_fields SpellsField (owner_field said.a) (Hexadecimal said.b) a b (owner_in-is said.a a said.one) (number_in-is 16 16 said.b b said.other);
+      spelled = two_fields SpellsField (owner_field said.a) (Hexadecimal said.b) a b (owner_in-is said.a a said.one) (digits_in-is 16 16 said.b b said.other);
     })
 handler_in-is (a ∷ b ∷ c ∷ more) line e = absurd (none-some _ e)
 
@@ -186,7 +186,7 @@ unfolding handler_in
 handler_in-spelled guid status behind s =
     ap handler_in (two_words SpellsField (owner_field guid) (Hexadecimal status) behind s)
     ∙ two-said (owner_in s.first) (hexadecimal_in s.rest.first) Handler guid status (owner_in-spelled guid s.first s.one)
-    (number_in-spelled 16 16 status s.rest.first s.rest.one)
+    (digits_in-spelled 16 16 status s.rest.first s.rest.one)
 
 poke_in-is : (words : List (List ℕ)) (line : Line) → poke_in words ≡ Some line → Reads keyword.Poke words line
 unfolding poke_in
@@ -199,7 +199,7 @@ poke_in-is (a ∷ b ∷ c ∷ []) line e =
     subst P said.made (record {
       same = refl;
       spelled = three_fields SpellsField (Decimal said.a) (Decimal said.b) (Hexadecimal said.c) a b c
-          (number_in-is 10 10 said.a a said.one) (number_in-is 10 10 said.b b said.other) (number_in-is 16 16 said.c c said.last);
+          (digits_in-is 10 10 said.a a said.one) (digits_in-is 10 10 said.b b said.other) (digits_in-is 16 16 said.c c said.last);
     })
 poke_in-is (a ∷ b ∷ c ∷ d ∷ more) line e = absurd (none-some _ e)
 
@@ -209,8 +209,8 @@ unfolding poke_in
 poke_in-spelled lane word value behind s =
     ap poke_in (three_words SpellsField (Decimal lane) (Decimal word) (Hexadecimal value) behind s)
     ∙ three-said (decimal_in s.first) (decimal_in s.rest.first) (hexadecimal_in s.rest.rest.first) Poke lane word value
-    (number_in-spelled 10 10 lane s.first s.one) (number_in-spelled 10 10 word s.rest.first s.rest.one)
-    (number_in-spelled 16 16 value s.rest.rest.first s.rest.rest.one)
+    (digits_in-spelled 10 10 lane s.first s.one) (digits_in-spelled 10 10 word s.rest.first s.rest.one)
+    (digits_in-spelled 16 16 value s.rest.rest.first s.rest.rest.one)
 
 fill_in-is : (words : List (List ℕ)) (line : Line) → fill_in words ≡ Some line → Reads keyword.Fill words line
 unfolding fill_in
@@ -221,7 +221,7 @@ fill_in-is (a ∷ b ∷ []) line e =
     let P : Line → Type 0 = λ l. Reads keyword.Fill (a ∷ b ∷ []) l in
     subst P said.made (record {
       same = refl;
-      spelled = two_fields SpellsField (Decimal said.a) (Bytes said.b) a b (number_in-is 10 10 said.a a said.one) (bytes_in-is said.b b said.other);
+      spelled = two_fields SpellsField (Decimal said.a) (Bytes said.b) a b (digits_in-is 10 10 said.a a said.one) (bytes_in-is said.b b said.other);
     })
 fill_in-is (a ∷ b ∷ c ∷ more) line e = absurd (none-some _ e)
 
@@ -230,7 +230,7 @@ fill_in-spelled : (lane : ℕ) (bytes : List ℕ) (behind : List (List ℕ)) →
 unfolding fill_in
 fill_in-spelled lane bytes behind s =
     ap fill_in (two_words SpellsField (Decimal lane) (Bytes bytes) behind s)
-    ∙ two-said (decimal_in s.first) (bytes_in s.rest.first) Fill lane bytes (number_in-spelled 10 10 lane s.first s.one)
+    ∙ two-said (decimal_in s.first) (bytes_in s.rest.first) Fill lane bytes (digits_in-spelled 10 10 lane s.first s.one)
     (bytes_in-spelled bytes s.rest.first s.rest.one)
 
 pairs_by : (word : List ℕ) (words : List (List ℕ)) (registers : List Named) (first : Option Named) (others : Option (List Named))
@@ -265,7 +265,7 @@ ring_in-is (a ∷ pairs) line e =
     let P : Line → Type 0 = λ l. Reads keyword.Ring (a ∷ pairs) l in
     subst P said.made (record {
       same = refl;
-      spelled = record { first = a; others = pairs; whole = refl; one = number_in-is 10 10 said.a a said.one; rest = pairs_in-is pairs said.b said.other };
+      spelled = record { first = a; others = pairs; whole = refl; one = digits_in-is 10 10 said.a a said.one; rest = pairs_in-is pairs said.b said.other };
     })
 
 ring_in-spelled : (lane : ℕ) (registers : List Named) (behind : List (List ℕ)) → Each SpellsField (Decimal lane ∷ map Pair registers) behind
@@ -273,7 +273,7 @@ ring_in-spelled : (lane : ℕ) (registers : List Named) (behind : List (List ℕ
 unfolding ring_in
 ring_in-spelled lane registers behind s =
     ap ring_in s.whole
-    ∙ two-said (decimal_in s.first) (pairs_in s.others) Ring lane registers (number_in-spelled 10 10 lane s.first s.one)
+    ∙ two-said (decimal_in s.first) (pairs_in s.others) Ring lane registers (digits_in-spelled 10 10 lane s.first s.one)
     (pairs_in-spelled registers s.others s.rest)
 
 step_in-is : (words : List (List ℕ)) (line : Line) → step_in words ≡ Some line → Reads keyword.Step words line
@@ -282,28 +282,28 @@ step_in-is [] line e = absurd (none-some _ e)
 step_in-is (a ∷ []) line e =
     let said = mapped (decimal_in a) Step line e in
     let P : Line → Type 0 = λ l. Reads keyword.Step (a ∷ []) l in
-    subst P said.other (record { same = refl; spelled = one_field SpellsField (Decimal said.value) a (number_in-is 10 10 said.value a said.one) })
+    subst P said.other (record { same = refl; spelled = one_field SpellsField (Decimal said.value) a (digits_in-is 10 10 said.value a said.one) })
 step_in-is (a ∷ b ∷ []) line e =
     let said = two-is (decimal_in a) (decimal_in b) Steps line e in
     let P : Line → Type 0 = λ l. Reads keyword.Step (a ∷ b ∷ []) l in
     subst P said.made (record {
       same = refl;
-      spelled = two_fields SpellsField (Decimal said.a) (Decimal said.b) a b (number_in-is 10 10 said.a a said.one) (number_in-is 10 10 said.b b said.other);
+      spelled = two_fields SpellsField (Decimal said.a) (Decimal said.b) a b (digits_in-is 10 10 said.a a said.one) (digits_in-is 10 10 said.b b said.other);
     })
 step_in-is (a ∷ b ∷ c ∷ more) line e = absurd (none-some _ e)
 
 step_in-one : (lane : ℕ) (behind : List (List ℕ)) → Each SpellsField (Decimal lane ∷ []) behind → step_in behind ≡ Some (Step lane)
 unfolding step_in
 step_in-one lane behind s =
-    ap step_in (one_word SpellsField (Decimal lane) behind s) ∙ ap (option_map Step) (number_in-spelled 10 10 lane s.first s.one)
+    ap step_in (one_word SpellsField (Decimal lane) behind s) ∙ ap (option_map Step) (digits_in-spelled 10 10 lane s.first s.one)
 
 step_in-two : (lane count : ℕ) (behind : List (List ℕ)) → Each SpellsField (Decimal lane ∷ Decimal count ∷ []) behind
     → step_in behind ≡ Some (Steps lane count)
 unfolding step_in
 step_in-two lane count behind s =
     ap step_in (two_words SpellsField (Decimal lane) (Decimal count) behind s)
-    ∙ two-said (decimal_in s.first) (decimal_in s.rest.first) Steps lane count (number_in-spelled 10 10 lane s.first s.one)
-    (number_in-spelled 10 10 count s.rest.first s.rest.one)
+    ∙ two-said (decimal_in s.first) (decimal_in s.rest.first) Steps lane count (digits_in-spelled 10 10 lane s.first s.one)
+    (digits_in-spelled 10 10 count s.rest.first s.rest.one)
 
 run_in-is : (words : List (List ℕ)) (line : Line) → run_in words ≡ Some line → Reads keyword.Run words line
 unfolding run_in
@@ -311,13 +311,13 @@ run_in-is [] line e = absurd (none-some _ e)
 run_in-is (a ∷ []) line e =
     let said = mapped (decimal_in a) Run line e in
     let P : Line → Type 0 = λ l. Reads keyword.Run (a ∷ []) l in
-    subst P said.other (record { same = refl; spelled = one_field SpellsField (Decimal said.value) a (number_in-is 10 10 said.value a said.one) })
+    subst P said.other (record { same = refl; spelled = one_field SpellsField (Decimal said.value) a (digits_in-is 10 10 said.value a said.one) })
 run_in-is (a ∷ b ∷ more) line e = absurd (none-some _ e)
 
 run_in-spelled : (lane : ℕ) (behind : List (List ℕ)) → Each SpellsField (Decimal lane ∷ []) behind → run_in behind ≡ Some (Run lane)
 unfolding run_in
 run_in-spelled lane behind s =
-    ap run_in (one_word SpellsField (Decimal lane) behind s) ∙ ap (option_map Run) (number_in-spelled 10 10 lane s.first s.one)
+    ap run_in (one_word SpellsField (Decimal lane) behind s) ∙ ap (option_map Run) (digits_in-spelled 10 10 lane s.first s.one)
 
 -- what the words behind a keyword say, they spell, and the other way round
 pub line_behind-is : (which : Keyword) (words : List (List ℕ)) (line : Line) → line_behind which words ≡ Some line → Reads which words line

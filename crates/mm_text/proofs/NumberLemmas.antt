@@ -14,7 +14,7 @@ use Rattle.std.specs.Result.{OkIff, result_ok}
 use Rattle.std.specs.Str.{IsAscii, IsUtf8}
 use Rattle.std.specs.Str.Parse.{AllDigits, IsNumeral, ParsesUnsigned, digits_value}
 use Rattle.mm_text.specs.Fields.{SpellsNumber}
-use Rattle.mm_text.specs.LineReaderInside.{split_at, is_number, number_in}
+use Rattle.mm_text.specs.LineReaderInside.{split_at, is_number, digits_in}
 
 -- whether a text has this byte
 abbrev pub has : ℕ → List ℕ → Bool
@@ -113,13 +113,13 @@ is_number-is base most text e =
     }
 
 -- a number's word says it
-pub number_in-spelled : (base most number : ℕ) (text : List ℕ) → SpellsNumber base most number text → number_in base most text ≡ Some number
-unfolding number_in
-number_in-spelled base most number text s = rw (is_number-spelled base most number text s) (ap Some (sym s.value))
+pub digits_in-spelled : (base most number : ℕ) (text : List ℕ) → SpellsNumber base most number text → digits_in base most text ≡ Some number
+unfolding digits_in
+digits_in-spelled base most number text s = rw (is_number-spelled base most number text s) (ap Some (sym s.value))
 
-pub number_in-is : (base most number : ℕ) (text : List ℕ) → number_in base most text ≡ Some number → SpellsNumber base most number text
-unfolding number_in
-number_in-is base most number text e =
+pub digits_in-is : (base most number : ℕ) (text : List ℕ) → digits_in base most text ≡ Some number → SpellsNumber base most number text
+unfolding digits_in
+digits_in-is base most number text e =
     let parts = cond_some (is_number base most text) (digits_value base text) number e in
     let P : ℕ → Type 0 = λ n. SpellsNumber base most n text in
     subst P parts.1 (is_number-is base most text parts.0)
@@ -129,16 +129,16 @@ none_of true number refused = absurd (refused refl)
 none_of false number refused = refl
 
 -- a text that spells no number says none
-number_none : (base most : ℕ) (text : List ℕ) → (SpellsNumber base most (digits_value base text) text → ⊥) → number_in base most text ≡ None
-unfolding number_in
+number_none : (base most : ℕ) (text : List ℕ) → (SpellsNumber base most (digits_value base text) text → ⊥) → digits_in base most text ≡ None
+unfolding digits_in
 number_none base most text refused = none_of (is_number base most text) (digits_value base text) (λ e. refused (is_number-is base most text e))
 
 -- a text that is longer than a number may be says none
-pub number-long : (base most : ℕ) (text : List ℕ) → most < length text → number_in base most text ≡ None
+pub number-long : (base most : ℕ) (text : List ℕ) → most < length text → digits_in base most text ≡ None
 number-long base most text long = number_none base most text (λ s. omega (arith, s.high))
 
 -- a plus is no digit
-pub number-plus : (base most : ℕ) (text : List ℕ) → base ≤ 36 → starts_with nat_eq text (43 ∷ []) ≡ true → number_in base most text ≡ None
+pub number-plus : (base most : ℕ) (text : List ℕ) → base ≤ 36 → starts_with nat_eq text (43 ∷ []) ≡ true → digits_in base most text ≡ None
 number-plus base most [] small e = number_none base most [] (λ s. omega (arith, s.low))
 number-plus base most (byte ∷ text) small e =
     let same : 43 ≡ byte = (Decides-eqb 43 byte).0 ((and_true (43 == byte) _ e).0) in
@@ -162,7 +162,7 @@ digits_ascii base small (byte ∷ text) h =
     IsAscii-cons byte text (digit_small byte less) (digits_ascii base small text h.1)
 
 -- a text that is no text of characters says no number
-pub number-bytes : (base most : ℕ) (text : List ℕ) → base ≤ 36 → ¬ (IsUtf8 text) → number_in base most text ≡ None
+pub number-bytes : (base most : ℕ) (text : List ℕ) → base ≤ 36 → ¬ (IsUtf8 text) → digits_in base most text ≡ None
 number-bytes base most text small refused =
     number_none base most text (λ s. refused (IsUtf8-from_ascii text (digits_ascii base small text s.digits)))
 
@@ -173,15 +173,15 @@ number_small base most text two small s =
     omega (arith, digits_value-lt base text s.digits, pow-le-pow_right some s.high)
 
 parsed_by : {E : Type 0} (base most : ℕ) (text : List ℕ) (read : Result ℕ E) → 2 ≤ base → base ^ most ≤ 2 ^ 64 → length text ≤ most
-    → OkIff read (IsNumeral base text × (digits_value base text < 2 ^ 64)) (digits_value base text) → result_ok read ≡ number_in base most text
+    → OkIff read (IsNumeral base text × (digits_value base text < 2 ^ 64)) (digits_value base text) → result_ok read ≡ digits_in base most text
 parsed_by base most text (Ok number) two small few h =
-    sym (number_in-spelled base most number text (record { digits = h.0.0.1; low = h.0.0.0; high = few; value = h.1 }))
+    sym (digits_in-spelled base most number text (record { digits = h.0.0.1; low = h.0.0.0; high = few; value = h.1 }))
 parsed_by base most text (Err e) two small few h =
     sym (number_none base most text (λ s. h ((s.low, s.digits), number_small base most text two small s)))
 
 -- what is read of a text with no plus in front is its number
 pub number-parsed : {E : Type 0} (base most : ℕ) (text : List ℕ) (read : Result ℕ E) → 2 ≤ base → base ^ most ≤ 2 ^ 64 → length text ≤ most
-    → (slice_index text 0 ≡ 43 → ⊥) → ParsesUnsigned 64 base text read → result_ok read ≡ number_in base most text
+    → (slice_index text 0 ≡ 43 → ⊥) → ParsesUnsigned 64 base text read → result_ok read ≡ digits_in base most text
 number-parsed base most text read two small few plain h =
     let P : List ℕ → Type 0 = λ ds. OkIff read (IsNumeral base ds × (digits_value base ds < 2 ^ 64)) (digits_value base ds) in
     parsed_by base most text read two small few (subst P (without_leading_plus_none text plain) h)

@@ -1,10 +1,10 @@
 -- Texts that grow piece by piece.
 use Rattle.std.proofs.Common.{◌≡◌, ℕ, ◌+◌, ◌<◌, ◌/◌, ◌%◌, List, [], ◌∷◌, ◌++◌, length, drop, get_or, refl, ap, sym, ◌∙◌, append_assoc, slice_index, map, arith, Bor}
-use Rattle.std.proofs.lemmas.List.{drop_more, append-nil, get_or-map, length-map}
+use Rattle.std.proofs.lemmas.List.{drop_more, append-nil, get_or-map, length-map, nil_from_length}
 use Rattle.std.specs.List.{flat_map}
 use Rattle.hex.specs.Hex.{encode_lower, encode_with, lower_digits}
 use Rattle.mm_base.specs.Numbers.{bytes_of_word, bytes_of_words}
-use Rattle.mm_text.specs.Adds.{Adds}
+use Rattle.mm_text.specs.AddsInside.{Adds}
 use Rattle.mm_base.specs.declared.entry.Entry.{Entry}
 use Rattle.mm_base.specs.declared.volume.File.{File}
 use Rattle.file_words.specs.declared.file_word.FileWord.{FileWord}
@@ -40,6 +40,20 @@ pub encode_lower-append : (xs ys : List ℕ) → encode_lower (xs ++ ys) ≡ enc
 unfolding encode_with
 encode_lower-append [] ys = refl
 encode_lower-append (x ∷ xs) ys = ap (λ digits. slice_index lower_digits (x / 16) ∷ slice_index lower_digits (x % 16) ∷ digits) (encode_lower-append xs ys)
+
+-- one turn of a loop that puts the digits of bytes piece by piece
+pub pieces-turn : (bytes piece others whole : List ℕ) {old now : List ℕ} → piece ++ others ≡ bytes → old ++ encode_lower bytes ≡ whole
+    → Adds old (encode_lower piece) now → now ++ encode_lower others ≡ whole
+pieces-turn bytes piece others whole {old} joined left adds =
+    left_behind (encode_lower others) whole adds
+    (ap (λ text. old ++ text) (sym (encode_lower-append piece others) ∙ ap encode_lower joined) ∙ left)
+
+-- its end: no byte is left
+pub pieces-end : (bytes left : List ℕ) {old now : List ℕ} → length left ≡ 0 → now ++ encode_lower left ≡ old ++ encode_lower bytes
+    → Adds old (encode_lower bytes) now
+unfolding encode_with
+pieces-end bytes left {old} {now} none all =
+    record { is = sym (append-nil now) ∙ ap (λ bs. now ++ encode_lower bs) (sym (nil_from_length left none)) ∙ all }
 
 -- the digits of words are those of each word, one word behind another
 pub words-digits : (words : List ℕ) → encode_lower (bytes_of_words words) ≡ flat_map (λ word. encode_lower (bytes_of_word word)) words

@@ -7,7 +7,7 @@ use Rattle.std.specs.List.{list_all}
 use Rattle.mm_text.specs.Fields.{letters_of, keyword_of, Spells, HasForm}
 use Rattle.mm_text.specs.ScriptText.{is_of_text}
 use Rattle.mm_text.specs.Refusal.{first_of, IsKeyword}
-use Rattle.mm_text.specs.LineReaderInside.{cells_in, has_equals, keyword_of_word, lanes_in, cell_in, handler_in, poke_in, fill_in, ring_in, step_in, run_in, line_behind, line_in, is_cell_form, is_ring_form, is_step_form, form_behind, form_from, has_form, numbered, judged, Gives}
+use Rattle.mm_text.specs.LineReaderInside.{cells_in, has_equals, keyword_of_word, lanes_in, cell_in, handler_in, poke_in, fill_in, ring_in, step_in, run_in, line_behind, line_in, is_cell_form, is_ring_form, is_step_form, form_behind, form_from, has_form, or_unreadable, judged, Gives}
 use Rattle.mm_text.specs.declared.line.Keyword.{Keyword}
 use Rattle.mm_text.specs.declared.line.Keyword.TheVariants as keyword
 use Rattle.mm_text.specs.declared.line.Line.{Line}
@@ -36,14 +36,14 @@ keyword_refused handlers which word e refused other is =
 -- words of a form are judged by what they say
 pub judged_one : {A : Type 0} (now : A → List ℕ) (words : List A) (d : A) (form : List (List ℕ) → Bool) (said : List (List ℕ) → Option Line)
     → ((a : List ℕ) → form (a ∷ []) ≡ true) → 1 ≤ length words → length words < 2
-    → numbered (said (now (get_or words 0 d) ∷ [])) ≡ judged (form (map now words)) (said (map now words))
+    → or_unreadable (said (now (get_or words 0 d) ∷ [])) ≡ judged (form (map now words)) (said (map now words))
 judged_one now [] d form said h low high = absurd (omega arith)
 judged_one now (a ∷ []) d form said h low high = ap (λ f. judged f (said (now a ∷ []))) (sym (h (now a)))
 judged_one now (a ∷ b ∷ more) d form said h low high = absurd (omega arith)
 
 pub judged_two : {A : Type 0} (now : A → List ℕ) (words : List A) (d e : A) (form : List (List ℕ) → Bool) (said : List (List ℕ) → Option Line)
     → ((a b : List ℕ) → form (a ∷ b ∷ []) ≡ true) → 2 ≤ length words → length words < 3
-    → numbered (said (now (get_or words 0 d) ∷ now (get_or words 1 e) ∷ [])) ≡ judged (form (map now words)) (said (map now words))
+    → or_unreadable (said (now (get_or words 0 d) ∷ now (get_or words 1 e) ∷ [])) ≡ judged (form (map now words)) (said (map now words))
 judged_two now [] d e form said h low high = absurd (omega arith)
 judged_two now (a ∷ []) d e form said h low high = absurd (omega arith)
 judged_two now (a ∷ b ∷ []) d e form said h low high = ap (λ f. judged f (said (now a ∷ now b ∷ []))) (sym (h (now a) (now b)))
@@ -51,7 +51,7 @@ judged_two now (a ∷ b ∷ c ∷ more) d e form said h low high = absurd (omega
 
 pub judged_three : {A : Type 0} (now : A → List ℕ) (words : List A) (d e g : A) (form : List (List ℕ) → Bool) (said : List (List ℕ) → Option Line)
     → ((a b c : List ℕ) → form (a ∷ b ∷ c ∷ []) ≡ true) → 3 ≤ length words → length words < 4
-    → numbered (said (now (get_or words 0 d) ∷ now (get_or words 1 e) ∷ now (get_or words 2 g) ∷ [])) ≡ judged (form (map now words)) (said (map now words))
+    → or_unreadable (said (now (get_or words 0 d) ∷ now (get_or words 1 e) ∷ now (get_or words 2 g) ∷ [])) ≡ judged (form (map now words)) (said (map now words))
 judged_three now [] d e g form said h low high = absurd (omega arith)
 judged_three now (a ∷ []) d e g form said h low high = absurd (omega arith)
 judged_three now (a ∷ b ∷ []) d e g form said h low high = absurd (omega arith)
@@ -164,12 +164,12 @@ judged_ring now (a ∷ more) d low =
     ap (λ w. judged (list_all has_equals (map now w)) (ring_in (now a ∷ map now w))) (others_are a more)
 
 -- what is to be answered is an answer
-numbered_given : (said : Option Line) → Gives (numbered said) (numbered said)
-numbered_given None = refl
-numbered_given (Some line) = refl
+unreadable_given : (said : Option Line) → Gives (or_unreadable said) (or_unreadable said)
+unreadable_given None = refl
+unreadable_given (Some line) = refl
 
 judged_given : (form : Bool) (said : Option Line) → Gives (judged form said) (judged form said)
-judged_given true said = numbered_given said
+judged_given true said = unreadable_given said
 judged_given false said = refl
 
 gives_same : (form : Bool) (said : Option Line) (result : Result Line LineEnd) → result ≡ judged form said → Gives (judged form said) result

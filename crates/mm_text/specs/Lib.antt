@@ -1,7 +1,9 @@
-pub mod Adds
+pub mod AddsInside
+pub mod BootLines
 pub mod Fields
 pub mod Limits
 pub mod LineReaderInside
+pub mod RecordLines
 pub mod Refusal
 pub mod Report
 pub mod ScriptReaderInside

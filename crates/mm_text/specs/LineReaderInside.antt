@@ -34,16 +34,16 @@ abbrev pub is_number : ℕ → ℕ → List ℕ → Bool
 is_number base most word = nat_le 1 (length word) && nat_le (length word) most && list_all (λ byte. is_digit byte base) word
 
 -- a number of at most so many digits in this base
-unfoldable pub number_in : ℕ → ℕ → List ℕ → Option ℕ
-number_in base most word = if is_number base most word then Some (digits_value base word) else None
+unfoldable pub digits_in : ℕ → ℕ → List ℕ → Option ℕ
+digits_in base most word = if is_number base most word then Some (digits_value base word) else None
 
 -- a decimal number of at most 10 digits
 abbrev pub decimal_in : List ℕ → Option ℕ
-decimal_in word = number_in 10 10 word
+decimal_in word = digits_in 10 10 word
 
 -- a hexadecimal number of at most 16 digits
 abbrev pub hexadecimal_in : List ℕ → Option ℕ
-hexadecimal_in word = number_in 16 16 word
+hexadecimal_in word = digits_in 16 16 word
 
 -- the bytes of a word of hexadecimal digits
 unfoldable pub bytes_in : List ℕ → Option (List ℕ)
@@ -215,13 +215,13 @@ has_form [] = false
 has_form (word ∷ words) = form_from (keyword_of_word word) words
 
 -- what words say, or else that one of them can't be read
-abbrev pub numbered : {A : Type 0} → Option A → Result A LineEnd
-numbered None = Err Number
-numbered (Some said) = Ok said
+abbrev pub or_unreadable : {A : Type 0} → Option A → Result A LineEnd
+or_unreadable None = Err Number
+or_unreadable (Some said) = Ok said
 
 -- the answer for words that have a line's form or not, and say this: the form is judged first
 abbrev pub judged : Bool → Option Line → Result Line LineEnd
-judged form said = if form then numbered said else Err Words
+judged form said = if form then or_unreadable said else Err Words
 
 -- an end is the one that is to be answered; out of memory says nothing
 abbrev pub IsEnd : {A : Type 0} → Result A LineEnd → LineEnd → Type 0

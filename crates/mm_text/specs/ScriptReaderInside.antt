@@ -13,7 +13,7 @@ use Rattle.comm_core.specs.declared.event.Event.{Event}
 use Rattle.comm_core.specs.declared.script.Script.{Script}
 use Rattle.mm_text.specs.Fields.{keyword_of}
 use Rattle.mm_text.specs.Refusal.{IsRefused}
-use Rattle.mm_text.specs.ScriptText.{is_passed, is_event, has_none, lanes_in, words_in, kind_of, place_of, is_handler, is_ring, are_distinct, events_of, cells_of, stubs_of, Says, IsAccepted}
+use Rattle.mm_text.specs.ScriptText.{is_passed, is_event, has_none, lane_count, word_count, kind_of, place_of, is_handler, is_ring, are_distinct, events_of, cells_of, stubs_of, Says, IsAccepted}
 use Rattle.mm_text.specs.declared.line.Keyword.{Keyword}
 use Rattle.mm_text.specs.declared.line.Keyword.TheVariants as keyword
 use Rattle.mm_text.specs.declared.line.Line.{Line}
@@ -98,8 +98,8 @@ pub record IsSmall (builder : ScriptBuilder) : Type 0 where
 -- what is kept of lines stands for them
 pub record StandsFor (lines : List Line) (builder : ScriptBuilder) : Type 0 where
   pub phase : builder.phase ≡ phase_of lines
-  pub lanes : builder.lanes ≡ lanes_in lines
-  pub words : builder.words ≡ words_in lines
+  pub lanes : builder.lanes ≡ lane_count lines
+  pub words : builder.words ≡ word_count lines
   pub cells : builder.cells ≡ flat_map cells_of lines
   pub handlers : builder.handlers ≡ numbered 1 (flat_map stubs_of lines)
   pub count : length builder.handlers ≡ count_by (λ line. is_handler (keyword_of line)) lines

@@ -106,13 +106,13 @@ words_said (Step lane) = 0
 words_said (Steps lane count) = 0
 words_said (Run lane) = 0
 
-abbrev pub lanes_in : List Line → ℕ
-lanes_in [] = 0
-lanes_in (line ∷ lines) = lanes_said line
+abbrev pub lane_count : List Line → ℕ
+lane_count [] = 0
+lane_count (line ∷ lines) = lanes_said line
 
-abbrev pub words_in : List Line → ℕ
-words_in [] = 0
-words_in (line ∷ lines) = words_said line
+abbrev pub word_count : List Line → ℕ
+word_count [] = 0
+word_count (line ∷ lines) = words_said line
 
 -- the kind of a cell line's cell, and its place: a device byte counts from the window's begin
 abbrev pub kind_of : CellKind → Kind
@@ -158,14 +158,14 @@ abbrev pub is_in_range : List Line → Line → Bool
 is_in_range before (Lanes lanes words) = nat_le 1 lanes && nat_le lanes 16 && nat_le 3 words && nat_le words 512
 is_in_range before (Cell kind at value) = may_hold (kind_of kind) (place_of kind at) value
 is_in_range before (Handler guid status) = nat_lt (count_by (λ line. is_handler (keyword_of line)) before) 64
-is_in_range before (Poke lane word value) = nat_lt lane (lanes_in before) && nat_lt word (words_in before + 2)
-is_in_range before (Fill lane bytes) = nat_lt lane (lanes_in before) && nat_le 1 (length bytes) && nat_le (length bytes) (8 * words_in before)
+is_in_range before (Poke lane word value) = nat_lt lane (lane_count before) && nat_lt word (word_count before + 2)
+is_in_range before (Fill lane bytes) = nat_lt lane (lane_count before) && nat_le 1 (length bytes) && nat_le (length bytes) (8 * word_count before)
 is_in_range before (Ring lane registers) =
-    nat_lt lane (lanes_in before) && list_all (λ named. nat_lt named.register 19) registers && are_distinct registers
+    nat_lt lane (lane_count before) && list_all (λ named. nat_lt named.register 19) registers && are_distinct registers
     && nat_lt (count_by (λ line. is_ring (keyword_of line)) before) 8192
-is_in_range before (Step lane) = nat_lt lane (lanes_in before)
-is_in_range before (Steps lane count) = nat_lt lane (lanes_in before) && nat_le 1 count && nat_le count 2048
-is_in_range before (Run lane) = nat_lt lane (lanes_in before)
+is_in_range before (Step lane) = nat_lt lane (lane_count before)
+is_in_range before (Steps lane count) = nat_lt lane (lane_count before) && nat_le 1 count && nat_le count 2048
+is_in_range before (Run lane) = nat_lt lane (lane_count before)
 
 -- A line is accepted behind these lines: the words spell it, it is of this text, may stand there, and is in range.
 pub record IsAccepted (handlers : Bool) (before : List Line) (words : List (List ℕ)) (line : Line) : Type 0 where
@@ -181,9 +181,9 @@ pub record Says (handlers : Bool) (text : List (List ℕ)) (lines : List Line) :
   pub each : (k : ℕ) (words : List (List ℕ)) (line : Line) → slice_get (said_in text) k ≡ Some words → slice_get lines k ≡ Some line → IsAccepted handlers (take k lines) words line
 
 -- pokes of these values to the words of a lane from this one on, rising
-abbrev pub pokes : ℕ → ℕ → List ℕ → List Event
-pokes lane word [] = []
-pokes lane word (value ∷ values) = event.Poke lane word value ∷ pokes lane (word + 1) values
+abbrev pub pokes_from : ℕ → ℕ → List ℕ → List Event
+pokes_from lane word [] = []
+pokes_from lane word (value ∷ values) = event.Poke lane word value ∷ pokes_from lane (word + 1) values
 
 -- the value that is named for a register, or 0
 abbrev pub value_of : List Named → ℕ → ℕ
@@ -201,7 +201,7 @@ events_of (Lanes lanes words) = []
 events_of (Cell kind at value) = []
 events_of (Handler guid status) = []
 events_of (Poke lane word value) = event.Poke lane word value ∷ []
-events_of (Fill lane bytes) = pokes lane 2 (words_of_bytes bytes) ++ event.Poke lane 0 (length bytes) ∷ []
+events_of (Fill lane bytes) = pokes_from lane 2 (words_of_bytes bytes) ++ event.Poke lane 0 (length bytes) ∷ []
 events_of (Ring lane registers) = event.Ring lane (saved_of registers) ∷ []
 events_of (Step lane) = event.Steps lane 1 ∷ []
 events_of (Steps lane count) = event.Steps lane count ∷ []
@@ -234,8 +234,8 @@ stubs_of (Run lane) = []
 -- what lines say as a whole: the stubs are numbered from 1 on
 unfoldable pub script_of : List Line → Script
 script_of lines = record {
-  lanes = lanes_in lines;
-  words = words_in lines;
+  lanes = lane_count lines;
+  words = word_count lines;
   opening = record { cells = flat_map cells_of lines };
   handlers = numbered 1 (flat_map stubs_of lines);
   events = flat_map events_of lines;

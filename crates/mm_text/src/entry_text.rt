@@ -2,8 +2,8 @@
 ghost use Rattle.std.specs.Prelude.{◌≡◌, [], ◌∷◌, ◌++◌, OnOk, codes, ◌==◌};
 ghost use Rattle.std.specs.List.{list_all};
 ghost use Rattle.mm_base.specs.Guid.{guid_text};
-ghost use Rattle.mm_text.specs.Adds.{Adds};
-ghost use Rattle.mm_text.specs.Report.{register_words, register_line, shape_line, loads as loads_of, entry_line, request_line, reply_line, outcome_lines, entry_lines};
+ghost use Rattle.mm_text.specs.AddsInside.{Adds};
+ghost use Rattle.mm_text.specs.Report.{register_words, register_line, shape_line, load_count, entry_line, request_line, reply_line, outcome_lines, entry_lines};
 
 use crate::page::Page;
 use crate::record_text::put_invocations;
@@ -37,7 +37,7 @@ fn put_entry_line(page: &mut Page, k: u64, entry: &Entry) -> Result<(), NoMemory
 
 /// How many words of its lane were loaded for a request.
 fn loads(request: &Request) -> u64
-    ensures { result ≡ loads_of request.now }
+    ensures { result ≡ load_count request.now }
 {
     let length = request.length;
     if length >= HEADER_BYTES && request.bytes.len() as u64 == length {

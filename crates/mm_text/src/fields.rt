@@ -1,6 +1,6 @@
 //! How one word of a line is read; the cost is linear in its bytes.
 ghost use Rattle.std.specs.Prelude.{◌≡◌, ◌≤◌, ◌^◌, Some, None, MatchOption, vec_len, IfOk};
-ghost use Rattle.mm_text.specs.LineReaderInside.{split_at as split_of, number_in, decimal_in, hexadecimal_in, bytes_in, owner_in, cells_in, pair_in, has_equals as has_equals_in, numbered, Gives};
+ghost use Rattle.mm_text.specs.LineReaderInside.{split_at as split_of, digits_in, decimal_in, hexadecimal_in, bytes_in, owner_in, cells_in, pair_in, has_equals as has_equals_in, or_unreadable, Gives};
 
 use crate::line::{CellKind, Named};
 use crate::line_end::LineEnd;
@@ -18,7 +18,7 @@ const EQUALS: u8 = 61;
 
 /// A number of 1 to 10 decimal digits.
 pub(crate) fn read_decimal(word: &[u8]) -> Result<u64, LineEnd>
-    ensures { result ≡ numbered (decimal_in word.now) }
+    ensures { result ≡ or_unreadable (decimal_in word.now) }
 {
     match read_number(word, 10, MOST_DECIMALS) {
         Some(number) => Ok(number),
@@ -28,7 +28,7 @@ pub(crate) fn read_decimal(word: &[u8]) -> Result<u64, LineEnd>
 
 /// A number of 1 to 16 hexadecimal digits of either case.
 pub(crate) fn read_hexadecimal(word: &[u8]) -> Result<u64, LineEnd>
-    ensures { result ≡ numbered (hexadecimal_in word.now) }
+    ensures { result ≡ or_unreadable (hexadecimal_in word.now) }
 {
     match read_number(word, 16, MOST_HEXADECIMALS) {
         Some(number) => Ok(number),
@@ -41,7 +41,7 @@ fn read_number(word: &[u8], base: u32, most: usize) -> Option<u64>
     requires low { 2 ≤ base }
     requires high { base ≤ 36 }
     requires small { base ^ most ≤ 2 ^ 64 }
-    ensures { result ≡ number_in base most word.now }
+    ensures { result ≡ digits_in base most word.now }
 {
     if word.len() > most || word.starts_with(b"+") {
         return None;
@@ -55,7 +55,7 @@ fn read_number(word: &[u8], base: u32, most: usize) -> Option<u64>
 /// The bytes of an even count of hexadecimal digits of either case.
 #[tactic(auto, unfolding(crate::specs::LineReaderInside::bytes_in))]
 pub(crate) fn read_bytes(alloc: Global, word: &[u8]) -> Result<List<u8>, LineEnd>
-    ensures { Gives (numbered (bytes_in word.now)) result }
+    ensures { Gives (or_unreadable (bytes_in word.now)) result }
 {
     let mut bytes = zeros(alloc, word.len() / 2)?;
     match hex::decode_to_slice(word, bytes.as_mut_slice()) {
@@ -74,7 +74,7 @@ fn zeros(alloc: Global, count: usize) -> Result<Vec<u8>, NoMemory>
 /// Whom a stub is registered for: the root chain by the word `root`, or a GUID.
 #[tactic(auto, unfolding(crate::specs::LineReaderInside::owner_in))]
 pub(crate) fn read_owner(word: &[u8]) -> Result<Option<Guid>, LineEnd>
-    ensures { result ≡ numbered (owner_in word.now) }
+    ensures { result ≡ or_unreadable (owner_in word.now) }
 {
     if word == b"root".as_slice() {
         return Ok(None);

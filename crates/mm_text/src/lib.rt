@@ -2,6 +2,7 @@
 //! has just the bytes that its definition says. It never runs a script, and never reads or writes a stream.
 #![tactic(auto)]
 
+mod boot_text;
 mod entry_text;
 mod fields;
 mod keyword;
@@ -10,6 +11,7 @@ mod line;
 mod line_end;
 mod line_reader;
 mod page;
+mod parts;
 mod record_text;
 mod registers;
 mod report_text;
@@ -19,6 +21,7 @@ mod text_end;
 mod volume_text;
 
 pub use line::{CellKind, Keyword, Line, Named};
-pub use report_text::{Parts, report};
+pub use parts::{Locked, Parts};
+pub use report_text::report;
 pub use script_reader::read_script;
 pub use text_end::{TextEnd, TextFault};

@@ -2,7 +2,7 @@
 ghost use Rattle.std.specs.Prelude.{◌≡◌, [], ◌∷◌, map, is_some, Err, IfOk};
 ghost use Rattle.std.specs.List.{list_all};
 ghost use Rattle.mm_text.specs.Fields.{letters_of, keyword_of, Spells, HasForm};
-ghost use Rattle.mm_text.specs.LineReaderInside.{has_equals as has_equals_in, cells_in, pairs_in, lanes_in, cell_in, handler_in, poke_in, fill_in, ring_in, step_in, run_in, line_behind, form_behind, numbered, judged, Gives};
+ghost use Rattle.mm_text.specs.LineReaderInside.{has_equals as has_equals_in, cells_in, pairs_in, lanes_in, cell_in, handler_in, poke_in, fill_in, ring_in, step_in, run_in, line_behind, form_behind, or_unreadable, judged, Gives};
 ghost use Rattle.mm_text.specs.Refusal.{first_of};
 ghost use Rattle.mm_text.specs.declared.line.Keyword.TheVariants as keywords;
 ghost use Rattle.mm_text.specs.declared.line.Line.{Line};
@@ -59,7 +59,7 @@ fn read_lanes(words: &[&[u8]]) -> Result<Line, LineEnd>
 /// A `lanes` line by its number of lanes and their number of data words.
 #[tactic(auto, unfolding(crate::specs::LineReaderInside::lanes_in))]
 fn lanes_line(lanes: &[u8], words: &[u8]) -> Result<Line, LineEnd>
-    ensures { result ≡ numbered (lanes_in (lanes.now ∷ words.now ∷ [])) }
+    ensures { result ≡ or_unreadable (lanes_in (lanes.now ∷ words.now ∷ [])) }
 {
     let lanes = read_decimal(lanes)?;
     let words = read_decimal(words)?;
@@ -102,7 +102,7 @@ fn read_handler(words: &[&[u8]]) -> Result<Line, LineEnd>
 /// A `handler` line by its owner and its status.
 #[tactic(auto, unfolding(crate::specs::LineReaderInside::handler_in))]
 fn handler_line(owner: &[u8], status: &[u8]) -> Result<Line, LineEnd>
-    ensures { result ≡ numbered (handler_in (owner.now ∷ status.now ∷ [])) }
+    ensures { result ≡ or_unreadable (handler_in (owner.now ∷ status.now ∷ [])) }
 {
     let guid = read_owner(owner)?;
     let status = read_hexadecimal(status)?;
@@ -122,7 +122,7 @@ fn read_poke(words: &[&[u8]]) -> Result<Line, LineEnd>
 /// A `poke` line by its lane, its word and its value.
 #[tactic(auto, unfolding(crate::specs::LineReaderInside::poke_in))]
 fn poke_line(lane: &[u8], word: &[u8], value: &[u8]) -> Result<Line, LineEnd>
-    ensures { result ≡ numbered (poke_in (lane.now ∷ word.now ∷ value.now ∷ [])) }
+    ensures { result ≡ or_unreadable (poke_in (lane.now ∷ word.now ∷ value.now ∷ [])) }
 {
     let lane = read_decimal(lane)?;
     let word = read_decimal(word)?;
@@ -143,7 +143,7 @@ fn read_fill(alloc: Global, words: &[&[u8]]) -> Result<Line, LineEnd>
 /// A `fill` line by its lane and its digits.
 #[tactic(auto, unfolding(crate::specs::LineReaderInside::fill_in))]
 fn fill_line(alloc: Global, lane: &[u8], digits: &[u8]) -> Result<Line, LineEnd>
-    ensures { Gives (numbered (fill_in (lane.now ∷ digits.now ∷ []))) result }
+    ensures { Gives (or_unreadable (fill_in (lane.now ∷ digits.now ∷ []))) result }
 {
     let lane = read_decimal(lane)?;
     let bytes = read_bytes(alloc, digits)?;
@@ -187,7 +187,7 @@ fn are_pairs(words: &[&[u8]]) -> bool
 
 /// A register's number and its value for each word.
 fn read_pairs(alloc: Global, words: &[&[u8]]) -> Result<List<Named>, LineEnd>
-    ensures { Gives (numbered (pairs_in (map (λ word. word.now) words.now))) result }
+    ensures { Gives (or_unreadable (pairs_in (map (λ word. word.now) words.now))) result }
 {
     let mut pairs = List::new(alloc);
     for word in words {
@@ -213,7 +213,7 @@ fn read_step(words: &[&[u8]]) -> Result<Line, LineEnd>
 /// A `step` line by its lane.
 #[tactic(auto, unfolding(crate::specs::LineReaderInside::step_in))]
 fn step_line(lane: &[u8]) -> Result<Line, LineEnd>
-    ensures { result ≡ numbered (step_in (lane.now ∷ [])) }
+    ensures { result ≡ or_unreadable (step_in (lane.now ∷ [])) }
 {
     let lane = read_decimal(lane)?;
     Ok(Line::Step { lane })
@@ -222,7 +222,7 @@ fn step_line(lane: &[u8]) -> Result<Line, LineEnd>
 /// A `step` line by its lane and its count.
 #[tactic(auto, unfolding(crate::specs::LineReaderInside::step_in))]
 fn steps_line(lane: &[u8], count: &[u8]) -> Result<Line, LineEnd>
-    ensures { result ≡ numbered (step_in (lane.now ∷ count.now ∷ [])) }
+    ensures { result ≡ or_unreadable (step_in (lane.now ∷ count.now ∷ [])) }
 {
     let lane = read_decimal(lane)?;
     let count = read_decimal(count)?;
@@ -242,7 +242,7 @@ fn read_run(words: &[&[u8]]) -> Result<Line, LineEnd>
 /// A `run` line by its lane.
 #[tactic(auto, unfolding(crate::specs::LineReaderInside::run_in))]
 fn run_line(lane: &[u8]) -> Result<Line, LineEnd>
-    ensures { result ≡ numbered (run_in (lane.now ∷ [])) }
+    ensures { result ≡ or_unreadable (run_in (lane.now ∷ [])) }
 {
     let lane = read_decimal(lane)?;
     Ok(Line::Run { lane })

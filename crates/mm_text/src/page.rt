@@ -1,19 +1,24 @@
 //! A text that is being written.
-ghost use Rattle.std.specs.Prelude.{◌≡◌, [], OnOk};
+ghost use Rattle.std.specs.Prelude.{◌≡◌, ◌≤◌, length, [], OnOk};
 ghost use Rattle.std.specs.Fmt.{decimal};
 ghost use Rattle.hex.specs.Hex.{encode_lower};
-ghost use Rattle.mm_text.specs.Adds.{Adds};
-ghost use Rattle.mm_text.specs.Report.{x16, bytes_text};
+ghost use Rattle.mm_base.specs.Numbers.{bytes_of_word};
+ghost use Rattle.mm_text.specs.AddsInside.{Adds};
+ghost use Rattle.mm_text.specs.RecordLines.{x16};
+ghost use Rattle.mm_text.specs.Report.{bytes_text};
 ghost use Rattle.mm_text.specs.VolumeLines.{x8};
 
+use itoa::Buffer;
 use mm_base::{Bytes, List, NoMemory};
 use std::alloc::Global;
 use std::marker::Model;
 
+/// How many bytes are spelled at once.
+const PIECE: usize = 32;
+
 /// A text that grows at its end. Contracts see its bytes.
 #[derive(Drop)]
 pub struct Page {
-    alloc: Global,
     text: Bytes,
 }
 
@@ -31,7 +36,6 @@ impl Page {
         ensures { result ≡ [] }
     {
         Page {
-            alloc,
             text: List::new(alloc),
         }
     }
@@ -40,7 +44,7 @@ impl Page {
     pub fn into_bytes(self) -> Bytes
         ensures { result ≡ self }
     {
-        let Page { alloc: _, text } = self;
+        let Page { text } = self;
         text
     }
 
@@ -62,12 +66,12 @@ impl Page {
     pub fn put_decimal(&mut self, number: u64) -> Result<(), NoMemory>
         ensures { OnOk result (Adds self.old (decimal number) self.new) }
     {
-        let text = number.to_string(self.alloc)?;
-        self.text.extend(text.as_bytes())
+        let mut digits = Buffer::new();
+        self.text.extend(digits.format(number).as_bytes())
     }
 
     /// Puts a word as sixteen hexadecimal digits at the end.
-    #[tactic(auto, unfolding(crate::specs::Report::x16))]
+    #[tactic(auto, unfolding(crate::specs::RecordLines::x16))]
     pub fn put_x16(&mut self, word: u64) -> Result<(), NoMemory>
         ensures { OnOk result (Adds self.old (x16 word) self.new) }
     {
@@ -90,8 +94,33 @@ impl Page {
     pub fn put_hex(&mut self, bytes: &[u8]) -> Result<(), NoMemory>
         ensures { OnOk result (Adds self.old (encode_lower bytes.now) self.new) }
     {
-        let text = hex::encode(self.alloc, bytes)?;
-        self.text.extend(text.as_bytes())
+        let mut left = bytes;
+        while !left.is_empty() {
+            let (piece, others) = left.split_at(left.len().min(PIECE));
+            self.put_piece(piece)?;
+            left = others;
+        }
+        Ok(())
+    }
+
+    /// Puts at most 32 bytes in hexadecimal at the end.
+    fn put_piece(&mut self, piece: &[u8]) -> Result<(), NoMemory>
+        requires { length piece.now ≤ 32 }
+        ensures { OnOk result (Adds self.old (encode_lower piece.now) self.new) }
+    {
+        let mut room = [0; 2 * PIECE];
+        let digits = &mut room[..2 * piece.len()];
+        let _ = hex::encode_to_slice(piece, digits);
+        self.text.extend(digits)
+    }
+
+    /// Puts the eight bytes of a word, the lowest first, in hexadecimal at the end.
+    pub fn put_word(&mut self, word: u64) -> Result<(), NoMemory>
+        ensures { OnOk result (Adds self.old (encode_lower (bytes_of_word word)) self.new) }
+    {
+        let mut digits = [0; 16];
+        let _ = hex::encode_to_slice(word.to_le_bytes(), &mut digits);
+        self.text.extend(&digits)
     }
 
     /// Puts bytes in hexadecimal at the end, or a dash where there are none.

@@ -1,8 +1,8 @@
 //! The lines of an invocation: how it ended, what it was denied, and what it wrote.
 ghost use Rattle.std.specs.Prelude.{◌≡◌, ◌++◌, OnOk};
 ghost use Rattle.std.specs.List.{flat_map};
-ghost use Rattle.mm_text.specs.Adds.{Adds};
-ghost use Rattle.mm_text.specs.Report.{x16, kind_word, right_word, fault_word, why_words, end_words, denial_line, write_line, end_line, invocation_lines};
+ghost use Rattle.mm_text.specs.AddsInside.{Adds};
+ghost use Rattle.mm_text.specs.RecordLines.{x16, kind_word, right_word, fault_word, why_words, end_words, denial_line, write_line, record_lines, end_line, invocation_lines};
 
 use crate::page::Page;
 use mm_base::{CellWrite, Denial, Ended, FaultKind, Invocation, Kind, NoMemory, Right, Why};
@@ -25,8 +25,12 @@ fn put_invocation(page: &mut Page, word: &[u8], invocation: &Invocation) -> Resu
     ensures { OnOk result (Adds page.old (invocation_lines word.now invocation.now) page.new) }
 {
     put_end_line(page, word, invocation)?;
-    put_denials(page, invocation.denials.as_slice())?;
-    put_writes(page, invocation.writes.as_slice())?;
+    put_records(
+        page,
+        b"    ",
+        invocation.denials.as_slice(),
+        invocation.writes.as_slice(),
+    )?;
     Ok(())
 }
 
@@ -43,19 +47,34 @@ fn put_end_line(page: &mut Page, word: &[u8], invocation: &Invocation) -> Result
     Ok(())
 }
 
-fn put_denials(page: &mut Page, denials: &[Denial]) -> Result<(), NoMemory>
-    ensures { OnOk result (Adds page.old (flat_map denial_line denials.now) page.new) }
+/// The lines of records, each with these spaces in front: all denials, and then all cell writes.
+pub fn put_records(
+    page: &mut Page,
+    spaces: &[u8],
+    denials: &[Denial],
+    writes: &[CellWrite],
+) -> Result<(), NoMemory>
+    ensures { OnOk result (Adds page.old (record_lines spaces.now denials.now writes.now) page.new) }
+{
+    put_denials(page, spaces, denials)?;
+    put_writes(page, spaces, writes)?;
+    Ok(())
+}
+
+fn put_denials(page: &mut Page, spaces: &[u8], denials: &[Denial]) -> Result<(), NoMemory>
+    ensures { OnOk result (Adds page.old (flat_map (denial_line spaces.now) denials.now) page.new) }
 {
     for denial in denials {
-        put_denial(page, denial)?;
+        put_denial(page, spaces, denial)?;
     }
     Ok(())
 }
 
-fn put_denial(page: &mut Page, denial: &Denial) -> Result<(), NoMemory>
-    ensures { OnOk result (Adds page.old (denial_line denial.now) page.new) }
+fn put_denial(page: &mut Page, spaces: &[u8], denial: &Denial) -> Result<(), NoMemory>
+    ensures { OnOk result (Adds page.old (denial_line spaces.now denial.now) page.new) }
 {
-    page.put(b"    deny ")?;
+    page.put(spaces)?;
+    page.put(b"deny ")?;
     page.put_text(word_of_kind(denial.kind))?;
     page.put(b" ")?;
     page.put_text(word_of_right(denial.right))?;
@@ -69,19 +88,20 @@ fn put_denial(page: &mut Page, denial: &Denial) -> Result<(), NoMemory>
     Ok(())
 }
 
-fn put_writes(page: &mut Page, writes: &[CellWrite]) -> Result<(), NoMemory>
-    ensures { OnOk result (Adds page.old (flat_map write_line writes.now) page.new) }
+fn put_writes(page: &mut Page, spaces: &[u8], writes: &[CellWrite]) -> Result<(), NoMemory>
+    ensures { OnOk result (Adds page.old (flat_map (write_line spaces.now) writes.now) page.new) }
 {
     for write in writes {
-        put_write(page, write)?;
+        put_write(page, spaces, write)?;
     }
     Ok(())
 }
 
-fn put_write(page: &mut Page, write: &CellWrite) -> Result<(), NoMemory>
-    ensures { OnOk result (Adds page.old (write_line write.now) page.new) }
+fn put_write(page: &mut Page, spaces: &[u8], write: &CellWrite) -> Result<(), NoMemory>
+    ensures { OnOk result (Adds page.old (write_line spaces.now write.now) page.new) }
 {
-    page.put(b"    write ")?;
+    page.put(spaces)?;
+    page.put(b"write ")?;
     page.put_text(word_of_kind(write.kind))?;
     page.put(b" ")?;
     page.put_x16(write.at)?;
@@ -93,7 +113,8 @@ fn put_write(page: &mut Page, write: &CellWrite) -> Result<(), NoMemory>
     Ok(())
 }
 
-fn put_end(page: &mut Page, ended: Ended) -> Result<(), NoMemory>
+/// The words for how an invocation ended.
+pub fn put_end(page: &mut Page, ended: Ended) -> Result<(), NoMemory>
     ensures { OnOk result (Adds page.old (end_words ended) page.new) }
 {
     match ended {

@@ -1,32 +1,23 @@
-//! The report of a run.
+//! The report of a command.
 ghost use Rattle.std.specs.Prelude.{◌≡◌, ◌≤◌, length, map, All, IfOk, OnOk};
 ghost use Rattle.std.specs.List.{flat_map};
 ghost use Rattle.std.specs.Option.{option_copied};
 ghost use Rattle.hex.specs.Hex.{encode_lower};
 ghost use Rattle.mm_base.specs.Numbers.{bytes_of_word, bytes_of_words};
-ghost use Rattle.mm_text.specs.Adds.{Adds};
-ghost use Rattle.mm_text.specs.Report.{bytes_text, entries_lines, lane_line, lanes_lines, part_lines, files_of, report_of, reported, HaveFrontWords, StandBeside};
+ghost use Rattle.mm_text.specs.AddsInside.{Adds};
+ghost use Rattle.mm_text.specs.BootLines.{waiting_lines, locked_line};
+ghost use Rattle.mm_text.specs.Report.{bytes_text, boot_lines, entries_lines, lane_line, lanes_lines, part_lines, files_of, report_of, reported, HaveFrontWords, StandBeside};
 ghost use Rattle.mm_text.specs.VolumeLines.{volume_line, files_lines};
 
+use crate::boot_text::{put_locked, put_policy, put_starts, put_waiting};
 use crate::entry_text::put_entry;
 use crate::page::Page;
+use crate::parts::{Locked, Parts};
 use crate::volume_text::{put_files, put_volume};
-use mm_base::{Bytes, Entries, Entry, List, NoMemory, Volume};
+use driver_start::StartRecord;
+use mm_base::{Bytes, Entries, Entry, Guid, List, NoMemory, Policy, Volume};
 use mm_core::FileWord;
 use std::alloc::Global;
-
-/// What a command reports. The report has the lines of the parts that are there.
-#[derive(Clone, Copy)]
-pub struct Parts<'a> {
-    /// The volume.
-    pub volume: Option<&'a Volume>,
-    /// What each of its files is taken for.
-    pub words: Option<&'a List<FileWord>>,
-    /// The entries, in recorded order.
-    pub entries: Option<&'a Entries>,
-    /// All words of each lane: the length, the status, and then the data.
-    pub lanes: Option<&'a List<List<u64>>>,
-}
 
 /// The report of these parts. It costs as many steps as the text has bytes, and a reference an entry.
 pub fn report(alloc: Global, parts: &Parts) -> Result<Bytes, NoMemory>
@@ -37,6 +28,9 @@ pub fn report(alloc: Global, parts: &Parts) -> Result<Bytes, NoMemory>
     let mut page = Page::new(alloc);
     put_volume_part(&mut page, parts.volume)?;
     put_files_part(&mut page, parts.volume, parts.words)?;
+    put_boot_part(&mut page, parts.policy, parts.starts)?;
+    put_waiting_part(&mut page, parts.waiting)?;
+    put_locked_part(&mut page, parts.locked)?;
     put_entries_part(&mut page, alloc, parts.entries)?;
     put_lanes_part(&mut page, parts.lanes)?;
     Ok(page.into_bytes())
@@ -76,6 +70,50 @@ fn put_files_of(
     match volume {
         None => page.put(b""),
         Some(volume) => put_files(page, volume.files.as_slice(), words),
+    }
+}
+
+fn put_boot_part(
+    page: &mut Page,
+    policy: Option<&Policy>,
+    starts: Option<&List<StartRecord>>,
+) -> Result<(), NoMemory>
+    ensures { OnOk result (Adds page.old
+        (part_lines (boot_lines (option_copied policy.entry)) (option_copied starts.entry)) page.new) }
+{
+    match starts {
+        None => page.put(b""),
+        Some(starts) => put_boot(page, policy, starts.as_slice()),
+    }
+}
+
+fn put_boot(
+    page: &mut Page,
+    policy: Option<&Policy>,
+    starts: &[StartRecord],
+) -> Result<(), NoMemory>
+    ensures { OnOk result (Adds page.old (boot_lines (option_copied policy.entry) starts.now) page.new) }
+{
+    put_policy(page, policy)?;
+    put_starts(page, starts)?;
+    Ok(())
+}
+
+fn put_waiting_part(page: &mut Page, waiting: Option<&List<Guid>>) -> Result<(), NoMemory>
+    ensures { OnOk result (Adds page.old (part_lines waiting_lines (option_copied waiting.entry)) page.new) }
+{
+    match waiting {
+        None => page.put(b""),
+        Some(names) => put_waiting(page, names.as_slice()),
+    }
+}
+
+fn put_locked_part(page: &mut Page, locked: Option<&Locked>) -> Result<(), NoMemory>
+    ensures { OnOk result (Adds page.old (part_lines locked_line (option_copied locked.entry)) page.new) }
+{
+    match locked {
+        None => page.put(b""),
+        Some(locked) => put_locked(page, locked),
     }
 }
 
@@ -161,7 +199,7 @@ fn put_each_word(page: &mut Page, words: &[u64]) -> Result<(), NoMemory>
     ensures { OnOk result (Adds page.old (flat_map (λ word. encode_lower (bytes_of_word word)) words.now) page.new) }
 {
     for word in words {
-        page.put_hex(&word.to_le_bytes())?;
+        page.put_word(*word)?;
     }
     Ok(())
 }

@@ -2,7 +2,7 @@
 ghost use Rattle.std.specs.Prelude.{◌≡◌, ◌+◌, ◌*◌, ◌^◌, ◌<◌, ◌≤◌, true, nat_lt, [], ◌∷◌, ◌++◌, length, OnOk};
 ghost use Rattle.mm_base.specs.Cells.{may_hold};
 ghost use Rattle.mm_base.specs.Numbers.{words_of_bytes};
-ghost use Rattle.mm_text.specs.ScriptText.{pokes, kind_of, place_of};
+ghost use Rattle.mm_text.specs.ScriptText.{pokes_from, kind_of, place_of};
 ghost use Rattle.mm_text.specs.ScriptReaderInside.{IsSmall, StandsFor, accepts, behind, built, happened, is_empty as has_no_line, stands_in};
 ghost use Rattle.mm_text.specs.declared.line.Line.{Line};
 
@@ -242,7 +242,7 @@ impl ScriptBuilder {
 /// Puts a poke of each word that the bytes fill.
 fn put_words(events: &mut List<Event>, lane: u32, bytes: &[u8]) -> Result<(), NoMemory>
     requires { length bytes.now ≤ 4096 }
-    ensures { OnOk result (events.new ≡ events.old ++ pokes lane 2 (words_of_bytes bytes.now)) }
+    ensures { OnOk result (events.new ≡ events.old ++ pokes_from lane 2 (words_of_bytes bytes.now)) }
 {
     let words = (bytes.len() + 7) / 8;
     for j in 0..words {

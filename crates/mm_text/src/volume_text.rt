@@ -1,6 +1,6 @@
 //! The lines of a volume and its files.
 ghost use Rattle.std.specs.Prelude.{◌≡◌, ◌++◌, length, codes, OnOk};
-ghost use Rattle.mm_text.specs.Adds.{Adds};
+ghost use Rattle.mm_text.specs.AddsInside.{Adds};
 ghost use Rattle.mm_text.specs.VolumeLines.{system_word, volume_line, pe_word, depex_word, cause_words, file_words, file_line, files_lines};
 
 use crate::page::Page;

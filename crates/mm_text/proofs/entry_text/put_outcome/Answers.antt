@@ -1,6 +1,7 @@
 use Rattle.std.proofs.Common.{ap, codes}
 use Rattle.std.specs.List.{flat_map}
-use Rattle.mm_text.specs.Report.{invocation_lines, reply_line}
+use Rattle.mm_text.specs.RecordLines.{invocation_lines}
+use Rattle.mm_text.specs.Report.{reply_line}
 use Rattle.mm_text.proofs.PageLemmas.{◌▸◌, as_known}
 use Rattle.mm_text.specs.Report.{outcome_lines}
 use Rattle.mm_text.proofs.entry_text.put_outcome.Goals as goal

@@ -1,5 +1,5 @@
 use Rattle.mm_text.proofs.PageLemmas.{◌▸◌}
-use Rattle.mm_text.specs.Report.{end_words}
+use Rattle.mm_text.specs.RecordLines.{end_words}
 use Rattle.mm_text.proofs.record_text.put_denied.Goals as goal
 
 pub returns : goal.returns

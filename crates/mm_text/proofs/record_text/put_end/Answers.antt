@@ -1,4 +1,4 @@
-use Rattle.mm_text.specs.Report.{end_words}
+use Rattle.mm_text.specs.RecordLines.{end_words}
 use Rattle.mm_text.proofs.record_text.put_end.Goals as goal
 
 pub returns-in-Returned : goal.returns-in-Returned

@@ -1,5 +1,5 @@
 use Rattle.mm_text.proofs.PageLemmas.{◌▸◌, as_known}
-use Rattle.mm_text.specs.Report.{end_words}
+use Rattle.mm_text.specs.RecordLines.{end_words}
 use Rattle.mm_text.proofs.record_text.put_fault.Goals as goal
 
 pub returns : goal.returns

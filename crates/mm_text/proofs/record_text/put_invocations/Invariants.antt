@@ -1,6 +1,6 @@
 use Rattle.std.proofs.Common.{◌≡◌, ◌++◌, drop}
 use Rattle.std.specs.List.{flat_map}
-use Rattle.mm_text.specs.Report.{invocation_lines}
+use Rattle.mm_text.specs.RecordLines.{invocation_lines}
 use Rattle.mm_text.proofs.record_text.put_invocations.Given as goal
 
 -- the text so far, with the lines of the invocations that are left, is the whole text

@@ -1,7 +1,7 @@
 use Rattle.std.proofs.Common.{ap}
 use Rattle.std.specs.Fmt.{decimal}
 use Rattle.mm_text.proofs.PageLemmas.{◌▸◌, as_known}
-use Rattle.mm_text.specs.Report.{why_words}
+use Rattle.mm_text.specs.RecordLines.{why_words}
 use Rattle.mm_text.proofs.record_text.put_rule.Goals as goal
 
 pub returns : goal.returns

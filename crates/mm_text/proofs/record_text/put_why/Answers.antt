@@ -1,4 +1,4 @@
-use Rattle.mm_text.specs.Report.{why_words}
+use Rattle.mm_text.specs.RecordLines.{why_words}
 use Rattle.mm_text.proofs.record_text.put_why.Goals as goal
 
 pub returns-in-Home : goal.returns-in-Home

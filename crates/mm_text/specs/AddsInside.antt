@@ -1,3 +1,4 @@
+-- No public clause cites this file.
 -- Texts that grow.
 use Rattle.std.specs.Prelude.{◌≡◌, ℕ, List, ◌++◌}
 
