@@ -1,5 +1,5 @@
 //! Runs of `check` over volumes in memory. What is expected was worked out from the rules of volumes and of the report.
-use memory_runs::{CHECK, is_listed, is_refused, many, ran, sink, source, wide};
+use memory_runs::{CHECK, is_listed, is_refused, many, ran, sink, source};
 use mm_base::{NoMemory, VolumeKind};
 use mm_run::{BadKind, Status, Which};
 use sample_volumes::{EMPTY, ONE_FILE, Piece, edited, joined};
@@ -228,10 +228,10 @@ fn refuses_one_byte_more(rt: HostRuntime) -> Result<(), Fail> {
 /// Whether a source whose reads with these numbers fail ends so, and nothing is written.
 fn is_read_fault(alloc: Global, failing: &[u32]) -> Result<bool, NoMemory> {
     let volume = joined(alloc, ONE_FILE)?;
-    let mut first = source(alloc, volume.as_slice(), failing)?;
-    let mut out = wide(alloc)?;
-    let end = ran(alloc, CHECK, &mut first, &mut out)?;
-    Ok(end == (Status::ReadFault(Which::First), true) && out.written().is_empty())
+    let first = source(alloc, volume.as_slice(), failing)?;
+    let out = sink(alloc, 4_096, &[])?;
+    let end = ran(alloc, CHECK, first, out)?;
+    Ok(end.is(Status::ReadFault(Which::First), false, b""))
 }
 
 /// The volume comes in five reads, and a sixth says that it ended.
@@ -248,10 +248,10 @@ fn a_read_that_fails(rt: HostRuntime) -> Result<(), Fail> {
 /// Whether a sink of 16 bytes a call, whose call with this number fails, ends with this front of the report.
 fn is_front(alloc: Global, failing: u32, front: &[u8]) -> Result<bool, NoMemory> {
     let volume = joined(alloc, ONE_FILE)?;
-    let mut first = source(alloc, volume.as_slice(), &[])?;
-    let mut out = sink(alloc, 16, &[failing])?;
-    let end = ran(alloc, CHECK, &mut first, &mut out)?;
-    Ok(end == (Status::WriteFault, true) && out.written() == front)
+    let first = source(alloc, volume.as_slice(), &[])?;
+    let out = sink(alloc, 16, &[failing])?;
+    let end = ran(alloc, CHECK, first, out)?;
+    Ok(end.is(Status::WriteFault, false, front))
 }
 
 #[test]

@@ -14,7 +14,7 @@ const SMALL_FILE: &[u8] = b"\0\0\0\0\0\0\0\0\0\0\0\0\0\0\0\0\xe7\xaa\x01\0\x18\0
 
 /// The same for a file of 40 bytes, which follow.
 const LAST_FILE: &[u8] =
-    b"\0\0\0\0\0\0\0\0\0\0\0\0\0\0\0\0\xd7\xaa\x01\0\x28\0\0\xf8the last 16 bytes";
+    b"\0\0\0\0\0\0\0\0\0\0\0\0\0\0\0\0\xd7\xaa\x01\0\x28\0\0\xf8the last 16, all";
 
 /// A volume of 16,777,216 bytes with files up to its end.
 fn full_volume(alloc: Global) -> Result<Bytes, NoMemory> {

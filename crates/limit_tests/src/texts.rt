@@ -1,5 +1,5 @@
 //! Texts that are too long to be written out, and whether a run writes one.
-use memory_runs::{ran, room, source};
+use memory_runs::{ran, sink_of, source};
 use mm_base::{Bytes, List, NoMemory};
 use mm_run::Status;
 use std::alloc::Global;
@@ -54,16 +54,16 @@ pub fn put_lines(
     Ok(())
 }
 
-/// Whether a run of these words over a source answers 0 and writes just this, and whether it hands out a world.
+/// Whether a run of these words over these bytes answers 0, hands out a world or not, and writes just this.
 pub fn writes(
     alloc: Global,
     words: &[&str],
     bytes: &[u8],
     report: &[u8],
-    has_world: bool,
+    world: bool,
 ) -> Result<bool, NoMemory> {
-    let mut first = source(alloc, bytes, &[])?;
-    let mut out = room(alloc, report.len())?;
-    let end = ran(alloc, words, &mut first, &mut out)?;
-    Ok(end == (Status::Done, !has_world) && out.written() == report)
+    let first = source(alloc, bytes, &[])?;
+    let out = sink_of(alloc, report.len())?;
+    let end = ran(alloc, words, first, out)?;
+    Ok(end.is(Status::Done, world, report))
 }

@@ -5,5 +5,5 @@
 mod checks;
 mod running;
 
-pub use checks::{CHECK, is_listed, is_listed_last, is_refused, wide};
-pub use running::{many, ran, room, sink, source, words_of};
+pub use checks::{CHECK, is_listed, is_listed_last, is_refused};
+pub use running::{Seen, many, ran, ran_over, sink, sink_of, source};

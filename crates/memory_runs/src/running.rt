@@ -1,14 +1,33 @@
 //! Runs of the top call over sources and sinks in memory.
 use mm_base::{Bytes, List, NoMemory};
-use mm_io::{MemorySink, MemorySource};
+use mm_io::{MemorySink, MemorySource, Source};
 use mm_run::{Status, run};
 use std::alloc::Global;
 
 /// How many bytes a sink takes in all, where its maker doesn't say.
 const ROOM: usize = 8_192;
 
-/// The words of a command line, copied. It costs a step a byte.
-pub fn words_of(alloc: Global, all: &[&str]) -> Result<Vec<String>, NoMemory> {
+/// What is seen of a run.
+#[derive(Drop)]
+pub struct Seen {
+    pub status: Status,
+    /// Whether it handed out the world that it drove.
+    pub world: bool,
+    /// How many reads of its first source failed.
+    pub faults: u64,
+    /// What it wrote.
+    pub written: Bytes,
+}
+
+impl Seen {
+    /// Whether it ended so, handed out a world or not, and wrote just this. It costs a step a byte.
+    pub fn is(&self, status: Status, world: bool, written: &[u8]) -> bool {
+        self.status == status && self.world == world && self.written.as_slice() == written
+    }
+}
+
+/// The words of a command line, copied.
+fn words_of(alloc: Global, all: &[&str]) -> Result<Vec<String>, NoMemory> {
     let mut words = Vec::new(alloc);
     for word in all {
         words.push(String::from_str(alloc, word)?)?;
@@ -16,24 +35,39 @@ pub fn words_of(alloc: Global, all: &[&str]) -> Result<Vec<String>, NoMemory> {
     Ok(words)
 }
 
-/// How a run of these words over a source and a sink ended, and whether it handed out no world; its second source has no bytes. It costs
-/// what `run` costs.
+/// How a run of these words over these sources ended. It costs what `run` costs, and a step for each byte written.
+pub fn ran_over<V: Source + Drop, S: Source + Drop>(
+    alloc: Global,
+    words: &[&str],
+    mut first: V,
+    mut second: S,
+    mut out: MemorySink,
+) -> Result<Seen, NoMemory> {
+    let words = words_of(alloc, words)?;
+    let end = run(alloc, &words, &mut first, &mut second, &mut out);
+    Ok(Seen {
+        status: end.status,
+        world: end.world.is_some(),
+        faults: first.faults(),
+        written: List::from_slice(alloc, out.written())?,
+    })
+}
+
+/// The same with a second source that has no bytes.
 pub fn ran(
     alloc: Global,
     words: &[&str],
-    first: &mut MemorySource,
-    out: &mut MemorySink,
-) -> Result<(Status, bool), NoMemory> {
-    let words = words_of(alloc, words)?;
-    let mut second = source(alloc, b"", &[])?;
-    let end = run(alloc, &words, first, &mut second, out);
-    Ok((end.status, end.world.is_none()))
+    first: MemorySource,
+    out: MemorySink,
+) -> Result<Seen, NoMemory> {
+    let second = source(alloc, b"", &[])?;
+    ran_over(alloc, words, first, second, out)
 }
 
 /// A source of a copy of these bytes, 100 a read. The reads with these numbers, counted from 0, fail.
-pub fn source(alloc: Global, script: &[u8], failing: &[u32]) -> Result<MemorySource, NoMemory> {
+pub fn source(alloc: Global, bytes: &[u8], failing: &[u32]) -> Result<MemorySource, NoMemory> {
     Ok(MemorySource::new(
-        List::from_slice(alloc, script)?,
+        List::from_slice(alloc, bytes)?,
         100,
         List::from_slice(alloc, failing)?,
     ))
@@ -54,7 +88,8 @@ pub fn sink(alloc: Global, most: u32, failing: &[u32]) -> Result<MemorySink, NoM
     ))
 }
 
-/// A sink that takes so many bytes in all, none of whose writes fails before.
-pub fn room(alloc: Global, length: usize) -> Result<MemorySink, NoMemory> {
-    Ok(MemorySink::new(many(alloc, length, b'#')?, 1_000_000, List::new(alloc)))
+/// A sink that takes so many bytes in all, and fails at the first one more.
+pub fn sink_of(alloc: Global, room: usize) -> Result<MemorySink, NoMemory> {
+    let bytes = many(alloc, room, b'#')?;
+    Ok(MemorySink::new(bytes, 65_536, List::new(alloc)))
 }

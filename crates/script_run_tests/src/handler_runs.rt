@@ -1,6 +1,6 @@
 //! Whole runs with stubs, root handlers, several lanes, registers and cells. What is expected was worked out by hand from
 //! the formats.
-use crate::running::{refuses, reports, script_words};
+use crate::running::{SCRIPT, refuses, reports};
 use mm_base::TextKind;
 use mm_run::Status;
 use std::alloc::Global;
@@ -217,11 +217,10 @@ fn is_refused(
     line: u32,
     kind: TextKind,
 ) -> Result<(), Fail> {
-    let words = script_words(alloc)?;
     refuses(
         rt,
         alloc,
-        &words,
+        SCRIPT,
         script,
         &[],
         Status::BadText { line, kind },

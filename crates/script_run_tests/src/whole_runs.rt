@@ -1,9 +1,9 @@
 //! Whole runs over sources and sinks in memory. What is expected was worked out by hand from the definitions.
-use crate::running::{refuses, reports, script_words};
-use memory_runs::{many, ran, sink, source};
+use crate::running::{SCRIPT, refuses, reports};
+use memory_runs::{many, ran, ran_over, sink, source};
 use mm_base::{List, NoMemory, TextKind};
-use mm_io::{FileSource, Source};
-use mm_run::{Status, Which, run};
+use mm_io::FileSource;
+use mm_run::{Status, Which};
 use std::alloc::Global;
 use std::test::Fail;
 
@@ -233,19 +233,11 @@ step 0 2048
 #[test]
 fn faults_have_their_causes(rt: HostRuntime) -> Result<(), Fail> {
     let alloc = rt.alloc();
-    let words = script_words(alloc)?;
+    refuses(&rt, alloc, &[], VERSION_SCRIPT, &[], Status::Usage)?;
     refuses(
         &rt,
         alloc,
-        &Vec::new(alloc),
-        VERSION_SCRIPT,
-        &[],
-        Status::Usage,
-    )?;
-    refuses(
-        &rt,
-        alloc,
-        &words,
+        SCRIPT,
         b"# a lane\nlanes 1 4\nring 1",
         &[],
         Status::BadText {
@@ -256,7 +248,7 @@ fn faults_have_their_causes(rt: HostRuntime) -> Result<(), Fail> {
     refuses(
         &rt,
         alloc,
-        &words,
+        SCRIPT,
         VERSION_SCRIPT,
         &[0],
         Status::ReadFault(Which::First),
@@ -265,7 +257,7 @@ fn faults_have_their_causes(rt: HostRuntime) -> Result<(), Fail> {
     refuses(
         &rt,
         alloc,
-        &words,
+        SCRIPT,
         long.as_slice(),
         &[],
         Status::TooLong(Which::First),
@@ -293,10 +285,10 @@ const NO_FORMS: &[&[&str]] = &[
 /// Whether a run of these words is refused for them: nothing is read of the source, whose first read would fail, and nothing is
 /// written.
 fn is_no_form(alloc: Global, words: &[&str]) -> Result<bool, NoMemory> {
-    let mut first = source(alloc, VERSION_SCRIPT, &[0])?;
-    let mut out = sink(alloc, 4_096, &[])?;
-    let end = ran(alloc, words, &mut first, &mut out)?;
-    Ok(end == (Status::Usage, true) && first.faults() == 0 && out.written().is_empty())
+    let first = source(alloc, VERSION_SCRIPT, &[0])?;
+    let out = sink(alloc, 4_096, &[])?;
+    let end = ran(alloc, words, first, out)?;
+    Ok(end.is(Status::Usage, false, b"") && end.faults == 0)
 }
 
 /// How many of these command lines are refused for their words.
@@ -329,28 +321,22 @@ fn a_script_of_all_bytes(rt: HostRuntime) -> Result<(), Fail> {
 #[test]
 fn a_front_is_written(rt: HostRuntime) -> Result<(), Fail> {
     let alloc = rt.alloc();
-    let words = script_words(alloc)?;
-    let mut first = source(alloc, VERSION_SCRIPT, &[])?;
-    let mut second = source(alloc, b"", &[])?;
-    let mut out = sink(alloc, 16, &[1])?;
-    let end = run(alloc, &words, &mut first, &mut second, &mut out);
-    assert_eq!(rt;
-        (end.status, end.world.is_some()),
-        (Status::WriteFault, true)
-    );
-    assert_eq!(rt; out.written(), b"entry 0 lane 0 l".as_slice());
+    let first = source(alloc, VERSION_SCRIPT, &[])?;
+    let out = sink(alloc, 16, &[1])?;
+    let end = ran(alloc, SCRIPT, first, out)?;
+    assert_eq!(rt; (end.status, end.world), (Status::WriteFault, true));
+    assert_eq!(rt; end.written.as_slice(), b"entry 0 lane 0 l".as_slice());
     Ok(())
 }
 
 #[test]
 fn a_file_that_is_not_there(rt: HostRuntime) -> Result<(), Fail> {
     let alloc = rt.alloc();
-    let words = script_words(alloc)?;
-    let mut first = FileSource::named(&rt, "version.script");
-    let mut second = FileSource::named(&rt, "");
-    let mut out = sink(alloc, 16, &[])?;
-    let end = run(alloc, &words, &mut first, &mut second, &mut out);
+    let first = FileSource::named(&rt, "version.script");
+    let second = FileSource::named(&rt, "");
+    let out = sink(alloc, 16, &[])?;
+    let end = ran_over(alloc, SCRIPT, first, second, out)?;
     assert_eq!(rt; end.status, Status::ReadFault(Which::First));
-    assert_eq!(rt; out.written().len(), 0);
+    assert_eq!(rt; end.written.len(), 0);
     Ok(())
 }
