@@ -10,8 +10,8 @@ returns c =
     let w = c.in_ok-world.world in
     let lanes = c.in_ok-lanes.lanes in
     let told : c.in_ok-text.text ≡ run_report c.entries.result.now lanes =
-        c.in_ok-text.ensures
-        ∙ ap (λ (others : Reported). report_of (record others { entries = Some c.entries.result.now; lanes = Some lanes })) c.none.ensures in
+    c.in_ok-text.ensures
+    ∙ ap (λ (others : Reported). report_of (record others { entries = Some c.entries.result.now; lanes = Some lanes })) c.none.ensures in
     record {
       world = w;
       there = refl;
