@@ -1,7 +1,11 @@
 pub mod BeforeLemmas
 pub mod CleanLemmas
 pub mod CodeLemmas
+pub mod FormLemmas
+pub mod LawLemmas
 pub mod LoadLemmas
+pub mod Offered
+pub mod OpeningLemmas
 pub mod PlaceLemmas
 pub mod RunLemmas
 pub mod SettleLemmas

@@ -55,7 +55,7 @@ if_true : {X : Type 0} (b : Bool) (x y : X) → b ≡ true → (if b then x else
 if_true true x y is = refl
 if_true false x y is = absurd cc
 
-if_false : {X : Type 0} (b : Bool) (x y : X) → b ≡ false → (if b then x else y) ≡ y
+pub if_false : {X : Type 0} (b : Bool) (x y : X) → b ≡ false → (if b then x else y) ≡ y
 if_false false x y is = refl
 if_false true x y is = absurd cc
 

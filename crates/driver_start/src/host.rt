@@ -1,9 +1,13 @@
 //! What a core has while it starts its drivers.
-ghost use Rattle.std.specs.Prelude.{◌≡◌, false, replicate, IfOk};
-ghost use Rattle.driver_start.specs.Hosts.{IsHost};
+ghost use Rattle.std.specs.Prelude.{◌≡◌, ◌*◌, true, false, replicate, IfOk};
+ghost use Rattle.mm_base.specs.Frames.{zeros};
+ghost use Rattle.driver_start.specs.Hosts.{IsHost, IsOpenedWith, opening_host};
 
-use mm_base::{Frames, NoMemory};
+use mm_base::{Frames, NoMemory, Opening, Policy};
+use mm_memory::{Memory, PlainFrames};
 use page_runs::RunMap;
+use platform_model::Platform;
+use secure_policy::Guard;
 use std::alloc::Global;
 use std::marker::Model;
 use supervisor_calls::Tables;
@@ -36,6 +40,32 @@ impl<F: Frames + Drop> Host<F> {
     {
         let taken = RunMap::new(alloc, PAGES)?;
         Ok(Host { tables, taken })
+    }
+}
+
+/// Memory of this many pages, all zero.
+fn zero_memory(alloc: Global, pages: u32) -> Result<Memory<PlainFrames>, NoMemory>
+    ensures { IfOk result (λ memory. memory ≡ record { bytes = zeros (4096 * pages); live = replicate pages true }) }
+{
+    Ok(Memory::new(PlainFrames::new(alloc, pages)?))
+}
+
+impl Host<PlainFrames> {
+    /// The host before the first start, under a policy and with opening cells: there are no images, handlers and interfaces, memory is
+    /// zero, and no page of it is taken. It takes 32 MiB for the pages of memory, and the memory of the tables.
+    pub fn opening(
+        alloc: Global,
+        policy: Policy,
+        opening: &Opening,
+    ) -> Result<Host<PlainFrames>, NoMemory>
+        requires { IsOpenedWith policy opening.now.cells }
+        ensures { IfOk result (λ host. host ≡ opening_host policy opening.now.cells) }
+    {
+        let memory = zero_memory(alloc, PAGES)?;
+        let guard = Guard::new(alloc, policy)?;
+        let platform = Platform::new(alloc, opening)?;
+        let tables = Tables::new(alloc, memory, guard, platform)?;
+        Host::new(alloc, tables)
     }
 }
 

@@ -5,6 +5,7 @@
 mod driver;
 mod host;
 mod invoking;
+pub mod laws;
 mod loading;
 mod record;
 mod starting;

@@ -1,10 +1,10 @@
 //! What a run makes of a script.
-ghost use Rattle.std.specs.Prelude.{◌≡◌, ◌≤◌, Some, true, IfOk, IfErr, length};
+ghost use Rattle.std.specs.Prelude.{◌≡◌, ◌≤◌, Some, true, All, IfOk, IfErr, length};
 ghost use Rattle.mm_core.specs.EntryStep.{core_step};
 ghost use Rattle.mm_text.specs.Limits.{IsWithinLimits};
 ghost use Rattle.mm_text.specs.ScriptText.{IsScript};
 ghost use Rattle.comm_core.specs.WorldPast.{StandsForEvents};
-ghost use Rattle.mm_run.specs.ScriptRun.{core_of};
+ghost use Rattle.mm_run.specs.ScriptRun.{core_of, run_report};
 ghost use Rattle.mm_run.specs.RunInside.{IsDriven, IsDrivenBy, IsMadeOfScript, RefusesBytes};
 ghost use Rattle.mm_run.specs.declared.source_kind.SourceKind.TheVariants.{ScriptText};
 
@@ -13,7 +13,7 @@ use crate::lanes::words_of_lanes;
 use crate::made::Made;
 use crate::status::Status;
 use comm_core::{Script, World};
-use mm_base::NoMemory;
+use mm_base::{Bytes, Entries, List, NoMemory};
 use mm_core::{Core, scripted};
 use mm_text::{Parts, read_script, report};
 use std::alloc::Global;
@@ -35,16 +35,28 @@ fn driven(alloc: Global, script: &Script) -> Result<Made, NoMemory>
 {
     let world = driven_world(alloc, script)?;
     let lanes = words_of_lanes(alloc, &world)?;
-    let parts = Parts {
-        entries: Some(world.entries()),
-        lanes: Some(&lanes),
-        ..Parts::none()
-    };
-    let text = report(alloc, &parts)?;
+    let text = told(alloc, world.entries(), &lanes)?;
     Ok(Made {
         world: Some(world),
         text,
     })
+}
+
+/// The report of entries and lanes.
+fn told<'a>(
+    alloc: Global,
+    entries: &'a Entries,
+    lanes: &'a List<List<u64>>,
+) -> Result<Bytes, NoMemory>
+    requires { All (λ lane. 2 ≤ length lane) lanes.now }
+    ensures { IfOk result (λ text. text ≡ run_report entries.now lanes.now) }
+{
+    let parts = Parts {
+        entries: Some(entries),
+        lanes: Some(lanes),
+        ..Parts::none()
+    };
+    report(alloc, &parts)
 }
 
 /// The world that the script drives.

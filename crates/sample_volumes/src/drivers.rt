@@ -1,6 +1,4 @@
 //! Volumes with driver files that are put together of sections.
-use crate::checks::is_listed_last;
-use crate::running::many;
 use crate::volumes::{IMAGE, Part, Piece, edited, joined, put_file, put_parts, volume_around};
 use mm_base::{Bytes, List, NoMemory};
 use std::alloc::Global;
@@ -38,7 +36,7 @@ fn bytes_of(alloc: Global, contents: &Contents) -> Result<Bytes, NoMemory> {
     match contents {
         Contents::Bytes(bytes) => List::from_slice(alloc, bytes),
         Contents::Operands(count, behind) => {
-            let mut bytes = many(alloc, *count, 0x06)?;
+            let mut bytes = List::from_vec(vec![in alloc; 0x06; *count]?);
             bytes.extend(behind)?;
             Ok(bytes)
         }
@@ -78,7 +76,7 @@ fn put_driver(files: &mut Bytes, alloc: Global, driver: &Driver) -> Result<(), N
     put_file(files, alloc, &part, body.as_slice())
 }
 
-/// A volume with these drivers, behind some files and in front of others.
+/// A volume with these drivers, after some files and before others. It costs a step a byte.
 pub fn volume_with(
     alloc: Global,
     front: &[Part],
@@ -92,24 +90,4 @@ pub fn volume_with(
     }
     put_parts(&mut files, alloc, back)?;
     volume_around(alloc, false, files.as_slice())
-}
-
-/// What is shown, the sections of a driver file, and the end of the report on a volume with that file alone.
-pub type Case = (&'static str, &'static [Section], &'static [u8]);
-
-/// Whether the volume of this case is listed so.
-fn is_as_said(alloc: Global, case: &Case) -> Result<bool, NoMemory> {
-    let (_, sections, said) = case;
-    let volume = volume_with(alloc, &[], &[(b"driver number 01", sections)], &[])?;
-    is_listed_last(alloc, volume.as_slice(), said)
-}
-
-/// The first of these that is listed otherwise.
-pub fn first_wrong(alloc: Global, cases: &[Case]) -> Result<Option<&'static str>, NoMemory> {
-    for case in cases {
-        if !is_as_said(alloc, case)? {
-            return Ok(Some(case.0));
-        }
-    }
-    Ok(None)
 }

@@ -194,7 +194,7 @@ pub const ONE_RULE: &[Piece] = &[
 /// A file that goes into a volume. `off` is added to the right file checksum: 0 leaves the body sound.
 #[derive(Drop)]
 pub struct Part {
-    /// The name, as it is stored.
+    /// The name, 16 bytes as they are stored.
     pub name: &'static [u8],
     pub kind: u8,
     pub attributes: u8,
@@ -219,7 +219,7 @@ fn put_layout(bytes: &mut Bytes, alloc: Global, layout: &Layout) -> Result<(), N
     bytes.extend(memory.as_slice())
 }
 
-/// Bytes of these layouts, one behind the other.
+/// Bytes of these layouts, one after the other. It costs a step a byte, and so do the other builders.
 pub fn joined(alloc: Global, layouts: &[Layout]) -> Result<Bytes, NoMemory> {
     let mut bytes = List::new(alloc);
     for layout in layouts {
@@ -228,7 +228,8 @@ pub fn joined(alloc: Global, layouts: &[Layout]) -> Result<Bytes, NoMemory> {
     Ok(bytes)
 }
 
-/// The first so many of these bytes, with pieces written over them.
+/// The first so many of these bytes, or all where there are fewer, with pieces written over them; what of a piece leads past their end
+/// is left out.
 pub fn edited(
     alloc: Global,
     bytes: &[u8],
@@ -322,7 +323,8 @@ fn put_part(files: &mut Bytes, alloc: Global, part: &Part) -> Result<(), NoMemor
     put_file(files, alloc, part, body.as_slice())
 }
 
-/// Puts files behind others.
+/// Puts files after others: of each its header, with the right checksums but for `off`, its body, and what is erased up to the next
+/// multiple of 8.
 pub fn put_parts(files: &mut Bytes, alloc: Global, parts: &[Part]) -> Result<(), NoMemory> {
     for part in parts {
         put_part(files, alloc, part)?;
@@ -330,7 +332,8 @@ pub fn put_parts(files: &mut Bytes, alloc: Global, parts: &[Part]) -> Result<(),
     Ok(())
 }
 
-/// Puts a file behind others, whose body is given, and what is erased up to the next one.
+/// Puts a file after others, whose body is given in place of the part's own, and what is erased up to the next multiple of 8. The body
+/// has fewer than 16,777,192 bytes, or the part tells that it is a large file.
 pub fn put_file(
     files: &mut Bytes,
     alloc: Global,
@@ -349,14 +352,14 @@ pub fn put_file(
     Ok(())
 }
 
-/// A volume of these files, without a block map.
+/// A volume of these files, without a block map, whose header has the right checksum.
 pub fn volume_of(alloc: Global, ffs3: bool, parts: &[Part]) -> Result<Bytes, NoMemory> {
     let mut files = List::new(alloc);
     put_parts(&mut files, alloc, parts)?;
     volume_around(alloc, ffs3, files.as_slice())
 }
 
-/// A volume around the bytes of its files, without a block map.
+/// A volume around the bytes of its files, without a block map, whose header has the right checksum. They begin at 72.
 pub fn volume_around(alloc: Global, ffs3: bool, files: &[u8]) -> Result<Bytes, NoMemory> {
     let length = files.len().wrapping_add(72);
     let blank = volume_header(alloc, ffs3, length, 0)?;

@@ -1,5 +1,6 @@
 //! What `check` says of driver files by their dependency expressions. What is expected was worked out from the rules of expressions.
-use crate::drivers::{Case, Contents, SOUND, TRUE, first_wrong};
+use crate::cases::{Case, first_wrong};
+use sample_volumes::{Contents, SOUND, TRUE};
 use std::test::Fail;
 
 /// Expressions that are refused.

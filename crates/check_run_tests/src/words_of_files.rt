@@ -1,11 +1,11 @@
 //! What `check` takes files for, by their types, their bodies' checksums and their sections. What is expected was worked out from the
 //! rules of files.
-use crate::checks::is_listed;
-use crate::volumes::{
+use memory_runs::is_listed;
+use mm_base::NoMemory;
+use sample_volumes::{
     COMPRESSED, COMPRESSED_BEHIND, DRIVER, DRIVER_AND_REST, GUID_DEFINED, LONG_SECTION, NO_IMAGE,
     NO_RULES, POLICY_NAME, Part, SHORT_BEHIND, SHORT_SECTION, TEXT, volume_of,
 };
-use mm_base::NoMemory;
 use std::alloc::Global;
 use std::test::Fail;
 

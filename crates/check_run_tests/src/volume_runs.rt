@@ -1,9 +1,8 @@
 //! Runs of `check` over volumes in memory. What is expected was worked out from the rules of volumes and of the report.
-use crate::checks::{CHECK, is_listed, is_refused, wide};
-use crate::running::{many, ran, sink, source};
-use crate::volumes::{EMPTY, ONE_FILE, Piece, edited, joined};
+use memory_runs::{CHECK, is_listed, is_refused, many, ran, sink, source, wide};
 use mm_base::{NoMemory, VolumeKind};
 use mm_run::{BadKind, Status, Which};
+use sample_volumes::{EMPTY, ONE_FILE, Piece, edited, joined};
 use std::alloc::Global;
 use std::test::Fail;
 

@@ -1,5 +1,6 @@
 //! What `check` says of driver files with images that are damaged. What is expected was worked out from the rules of images.
-use crate::drivers::{Case, Contents, NATIVE, SOUND, TRUE, first_wrong};
+use crate::cases::{Case, first_wrong};
+use sample_volumes::{Contents, NATIVE, SOUND, TRUE};
 use std::test::Fail;
 
 /// Images that are cut, and fields of their headers that are changed.

@@ -1,9 +1,11 @@
 //! What `check` takes driver files for: a usual volume, and names that stand twice. What is expected was worked out from the rules of
 //! files.
-use crate::checks::is_listed;
-use crate::drivers::{Contents, Driver, NATIVE, SOUND, TRUE, USUAL, volume_with};
-use crate::volumes::{Layout, NO_RULES, POLICY_NAME, Part, TEXT, edited};
+use memory_runs::is_listed;
 use mm_base::NoMemory;
+use sample_volumes::{
+    Contents, Driver, Layout, NATIVE, NO_RULES, POLICY_NAME, Part, SOUND, TEXT, TRUE, USUAL,
+    edited, volume_with,
+};
 use std::alloc::Global;
 use std::test::Fail;
 

@@ -1,5 +1,6 @@
 //! Whole runs over sources and sinks in memory. What is expected was worked out by hand from the definitions.
-use crate::running::{many, ran, refuses, reports, script_words, sink, source};
+use crate::running::{refuses, reports, script_words};
+use memory_runs::{many, ran, sink, source};
 use mm_base::{List, NoMemory, TextKind};
 use mm_io::{FileSource, Source};
 use mm_run::{Status, Which, run};

@@ -1,10 +1,10 @@
 //! Runs of `check` over volumes with a policy file. What is expected was worked out from the form of policies.
-use crate::checks::{is_listed, is_refused};
-use crate::volumes::{
-    DRIVER, Layout, NO_RULES, ONE_RULE, POLICY_NAME, Part, put_file, put_parts, volume_around,
-};
+use memory_runs::{is_listed, is_refused};
 use mm_base::{Bytes, List, NoMemory, PolicyKind, VolumeKind};
 use mm_run::{BadKind, Status};
+use sample_volumes::{
+    DRIVER, Layout, NO_RULES, ONE_RULE, POLICY_NAME, Part, put_file, put_parts, volume_around,
+};
 use std::alloc::Global;
 use std::test::Fail;
 
