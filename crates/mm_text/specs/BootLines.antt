@@ -1,4 +1,5 @@
--- The lines of a boot: its policy, its starts, the drivers that wait, and what is there at lock. Each ends with a line feed (byte 10).
+-- The lines of a boot: its policy, its starts, the drivers that wait, and what is there at lock. Each ends with a line feed
+-- (byte 10).
 use Rattle.std.specs.Prelude.{ℕ, List, ◌++◌, length, codes, Option, Some, None}
 use Rattle.std.specs.Fmt.{decimal}
 use Rattle.std.specs.List.{flat_map}
@@ -29,7 +30,8 @@ start_words TooMany = codes "toomany"
 -- the line of a start: its driver, its round, and how it ended
 unfoldable pub start_line : StartRecord → List ℕ
 start_line start =
-    codes "start " ++ guid_text start.name ++ codes " round " ++ decimal start.round ++ codes " " ++ start_words start.ended ++ codes "\n"
+    codes "start " ++ guid_text start.name ++ codes " round " ++ decimal start.round ++ codes " " ++ start_words start.ended
+    ++ codes "\n"
 
 -- a start: its line, and what its entry was denied and wrote
 unfoldable pub start_lines : StartRecord → List ℕ
@@ -46,5 +48,5 @@ waiting_lines names = flat_map waiting_line names
 -- what is there at lock: how many images, handlers and protocols
 unfoldable pub locked_line : Locked → List ℕ
 locked_line locked =
-    codes "locked images " ++ decimal (length locked.names) ++ codes " handlers " ++ decimal locked.handlers ++ codes " protocols "
-    ++ decimal locked.protocols ++ codes "\n"
+    codes "locked images " ++ decimal (length locked.names) ++ codes " handlers " ++ decimal locked.handlers
+    ++ codes " protocols " ++ decimal locked.protocols ++ codes "\n"

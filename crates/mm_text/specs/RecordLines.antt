@@ -66,14 +66,14 @@ end_words (NoMemory refused) = codes "nomemory"
 -- the line of a denial, with these spaces in front
 unfoldable pub denial_line : List ℕ → Denial → List ℕ
 denial_line spaces denial =
-    spaces ++ codes "deny " ++ kind_word denial.kind ++ codes " " ++ right_word denial.right ++ codes " " ++ x16 denial.at ++ codes " "
-    ++ decimal denial.n ++ codes " " ++ why_words denial.why ++ codes "\n"
+    spaces ++ codes "deny " ++ kind_word denial.kind ++ codes " " ++ right_word denial.right ++ codes " " ++ x16 denial.at
+    ++ codes " " ++ decimal denial.n ++ codes " " ++ why_words denial.why ++ codes "\n"
 
 -- the line of a cell write, with these spaces in front
 unfoldable pub write_line : List ℕ → CellWrite → List ℕ
 write_line spaces write =
-    spaces ++ codes "write " ++ kind_word write.kind ++ codes " " ++ x16 write.at ++ codes " " ++ decimal write.n ++ codes " "
-    ++ x16 write.value ++ codes "\n"
+    spaces ++ codes "write " ++ kind_word write.kind ++ codes " " ++ x16 write.at ++ codes " " ++ decimal write.n
+    ++ codes " " ++ x16 write.value ++ codes "\n"
 
 -- the lines of records, each with these spaces in front: all denials, and then all cell writes
 unfoldable pub record_lines : List ℕ → List Denial → List CellWrite → List ℕ
@@ -82,8 +82,10 @@ record_lines spaces denials writes = flat_map (denial_line spaces) denials ++ fl
 -- the line of an invocation: behind this word, its handler and how it ended
 unfoldable pub end_line : List ℕ → Invocation → List ℕ
 end_line word invocation =
-    codes "  " ++ word ++ codes " " ++ decimal invocation.handler ++ codes " " ++ end_words invocation.ended ++ codes "\n"
+    codes "  " ++ word ++ codes " " ++ decimal invocation.handler ++ codes " " ++ end_words invocation.ended
+    ++ codes "\n"
 
 -- an invocation: its line, and its records
 unfoldable pub invocation_lines : List ℕ → Invocation → List ℕ
-invocation_lines word invocation = end_line word invocation ++ record_lines (codes "    ") invocation.denials invocation.writes
+invocation_lines word invocation =
+    end_line word invocation ++ record_lines (codes "    ") invocation.denials invocation.writes

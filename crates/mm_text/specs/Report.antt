@@ -1,5 +1,5 @@
--- The report: what is written of a volume and its files, of a boot, of a run's entries, in recorded order, and of its lanes.
--- Each line ends with a line feed (byte 10, the last byte of each line's definition).
+-- The report: what is written of a volume and its files, of a boot, of entries in recorded order, and of lanes. Each line
+-- ends with a line feed (byte 10, the last byte of each line's definition).
 use Rattle.std.specs.Prelude.{◌≡◌, ℕ, ◌+◌, ◌≤◌, ◌==◌, if◌then◌else◌, List, [], ◌∷◌, ◌++◌, length, drop, slice_index, codes, All, Option, Some, None}
 use Rattle.std.specs.Fmt.{decimal}
 use Rattle.std.specs.List.{flat_map, list_all}
@@ -100,8 +100,9 @@ abbrev pub part_lines : {X : Type 0} → (X → List ℕ) → Option X → List 
 part_lines lines None = []
 part_lines lines (Some part) = lines part
 
--- What a report tells of, each part if it is there: a volume, the words of its files, the policy of a boot, its starts, the
--- drivers that wait, what is there at lock, entries in recorded order, and lanes, each with its length, its status and then its data.
+-- What a report tells of, each part if it is there: a volume, the words of its files, the policy of a boot, its starts,
+-- the drivers that wait, what is there at lock, entries in recorded order, and lanes, each with its length, its status and
+-- then its data.
 pub record Reported : Type 0 where
   pub volume : Option Volume
   pub words : Option (List FileWord)
@@ -139,7 +140,8 @@ unfoldable pub report_of : Reported → List ℕ
 report_of parts =
     part_lines volume_line parts.volume ++ part_lines (files_lines (files_of parts.volume)) parts.words
     ++ part_lines (boot_lines parts.policy) parts.starts ++ part_lines waiting_lines parts.waiting
-    ++ part_lines locked_line parts.locked ++ part_lines (entries_lines 0) parts.entries ++ part_lines (lanes_lines 0) parts.lanes
+    ++ part_lines locked_line parts.locked ++ part_lines (entries_lines 0) parts.entries
+    ++ part_lines (lanes_lines 0) parts.lanes
 
 -- each lane has a length word and a status word
 abbrev pub HaveFrontWords : Option (List (List ℕ)) → Type 0

@@ -6,8 +6,10 @@ use Rattle.mm_text.proofs.page.Page.put_hex.Goals as goal
 
 pub loop-left-preserved : goal.loop-left-preserved
 loop-left-preserved c =
-    let joined : c.split_at.result.0.now ++ c.split_at.result.1.now ≡ c.loop-left.left.now = rw c.split_at.ensures.front (rw c.split_at.ensures.back (take-append-drop _ _)) in
-    pieces-turn c.loop-left.left.now c.split_at.result.0.now c.split_at.result.1.now _ joined c.loop-left.invariant c.in_ok-put_piece.ensures
+    let cut = c.split_at.result in
+    let left = c.loop-left.left.now in
+    let joined : cut.0.now ++ cut.1.now ≡ left = rw c.split_at.ensures.front (rw c.split_at.ensures.back (take-append-drop _ _)) in
+    pieces-turn left cut.0.now cut.1.now _ joined c.loop-left.invariant c.in_ok-put_piece.ensures
 
 pub returns : goal.returns
 returns c =
