@@ -84,4 +84,10 @@ impl<F: Frames> Host<F> {
     {
         &self.tables
     }
+    /// What holds of all hosts.
+    pub fn keeps(&self)
+        ensures { IsHost self.now }
+    {
+        let _ = &self.tables;
+    }
 }

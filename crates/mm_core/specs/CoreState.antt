@@ -1,28 +1,52 @@
 -- What contracts see of a core, in two parts: what stays from lock on, and what a step may change.
-use Rattle.std.specs.Prelude.{List, []}
+use Rattle.std.specs.Prelude.{ℕ, true, Bool, List, [], length}
 use Rattle.mm_base.specs.declared.handler.Handler.{Handler}
-use Rattle.mm_base.specs.declared.policy.Policy.{Policy}
 use Rattle.platform_model.specs.Cells.{PlatformState}
-use Rattle.supervisor_calls.specs.Tables.{Live, Site as Supervised}
+use Rattle.protocol_db.specs.ProtocolDb.{DbState}
+use Rattle.supervisor_calls.specs.Tables.{Live, TablesState, Site as Supervised}
+use Rattle.volume_boot.specs.Boots.{default_policy}
 
--- what stays: the images and the policy, on which verdicts rest, and the handlers in order of registration
+-- what stays: the images and the policy, on which verdicts rest; the handlers in order of registration, and the number that the next one
+-- would have got; the interfaces; and which pages of memory may be read and written
 pub record Site : Type 0 where
   pub supervised : Supervised
   pub handlers : List Handler
+  pub next_number : ℕ
+  pub interfaces : DbState
+  pub pages : List Bool
 
 -- the machine state of a core
 pub record CoreState : Type 0 where
   pub site : Site
   pub live : Live
 
--- the policy where a volume has no policy file: no rules, and fuel of 65,536
-abbrev pub default_policy : Policy
-default_policy = record { rules = []; fuel = 65536 }
+-- no interfaces, and none may be installed
+abbrev pub no_interfaces : DbState
+no_interfaces = record { rows = []; next = 256; frozen = true }
 
 -- A core without images has these handlers and cells. Without images nothing may touch memory, so its memory is the
 -- empty list, and there is no pool and no reserve.
 abbrev pub without_images : List Handler → PlatformState → CoreState
 without_images handlers platform = record {
-  site = record { supervised = record { images = []; policy = default_policy }; handlers = handlers };
+  site = record {
+    supervised = record { images = []; policy = default_policy };
+    handlers = handlers;
+    next_number = length handlers;
+    interfaces = no_interfaces;
+    pages = [];
+  };
   live = record { memory = []; platform = platform; pools = []; reserves = [] };
+}
+
+-- the core that has these tables
+abbrev pub core_of_tables : TablesState → CoreState
+core_of_tables tables = record {
+  site = record {
+    supervised = tables.site;
+    handlers = tables.registry.handlers;
+    next_number = tables.registry.next;
+    interfaces = tables.protocols;
+    pages = tables.pages;
+  };
+  live = tables.live;
 }

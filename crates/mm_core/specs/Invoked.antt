@@ -30,8 +30,8 @@ pub record Answer : Type 0 where
 
 -- What a built-in handler makes of a message. The version handler (this project's own) puts its number into the first 8
 -- bytes, the lowest byte first, and makes the size 8; or it returns INVALID_PARAMETER where there are fewer bytes. A
--- stub returns its status and leaves the message. No image can register yet, so no code runs: it would leave the
--- message and return UNSUPPORTED.
+-- stub returns its status and leaves the message. The code of an image isn't run yet: it leaves the message, and counts as
+-- UNSUPPORTED.
 abbrev pub answer_of : HandlerBody → Message → Answer
 answer_of Version message =
     if nat_lt (length message.buffer) 8

@@ -1,3 +1,4 @@
+pub mod Boots
 pub mod BufferInside
 pub mod ChainInside
 pub mod CommunicateHeader
@@ -7,6 +8,7 @@ pub mod HandlerChain
 pub mod Invoked
 pub mod Laws
 pub mod MachineLemmas
+pub mod PartsInside
 pub mod Scripted
 pub mod StepInside
 pub mod Version

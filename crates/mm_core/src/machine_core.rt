@@ -1,70 +1,119 @@
 //! The core: the machine that answers captured requests.
-ghost use Rattle.std.specs.Prelude.{◌≡◌, ◌≤◌, [], Some, not, true, length, slice_get, IfOk};
+ghost use Rattle.std.specs.Prelude.{◌≡◌, ◌≤◌, ◌<◌, [], Some, not, true, length, slice_get, IfOk};
+ghost use Rattle.image_table.specs.ImageTable.{name_at};
 ghost use Rattle.mm_base.specs.Entry.{blank_entry};
 ghost use Rattle.mmi_registry.specs.Handlers.{chain_of};
-ghost use Rattle.mm_core.specs.CoreState.{without_images};
+ghost use Rattle.mm_core.specs.CoreState.{core_of_tables, without_images};
 ghost use Rattle.mm_core.specs.EntryStep.{has_none};
+ghost use Rattle.volume_boot.specs.Boots.{AreBooted};
 
+use crate::core_parts::CoreParts;
 use crate::entry_step::outcome_of;
 use mm_base::{Guid, Handler, Machine, NoMemory, Prepared};
+use mm_memory::PlainFrames;
 use mmi_registry::Registry;
 use platform_model::Platform;
 use std::alloc::Global;
 use std::marker::Model;
+use supervisor_calls::Tables;
 
-/// A core without images: its handlers, which are frozen, and the cells of the platform.
-#[derive(Debug, Drop)]
+/// A core: its images, its handlers and its interfaces, which are frozen, its memory and the cells of the platform. A script's has no images.
+#[derive(Drop)]
 pub struct Core {
-    registry: Registry,
-    platform: Platform,
+    parts: CoreParts,
 }
 
 impl Model for Core {
-    ghost use Rattle.std.specs.Prelude.{◌≡◌, true};
-    ghost use Rattle.mm_core.specs.CoreState.{CoreState, without_images};
+    ghost use Rattle.mm_core.specs.CoreState.{CoreState};
+    ghost use Rattle.mm_core.specs.PartsInside.{core_seen, IsCore};
 
     ghost Value = { CoreState };
 
-    ghost view = { λ c. without_images c.registry.handlers c.platform };
+    ghost view = { λ c. core_seen c.parts };
 
-    ghost invariant = { λ c. c.registry.frozen ≡ true };
+    ghost invariant = { λ c. IsCore c.parts };
 }
 
 impl Core {
-    /// The core that has these handlers and cells. Registration is over.
-    pub(crate) fn new(registry: Registry, platform: Platform) -> Core
+    /// The core without images that has these handlers and cells. Registration is over.
+    pub(crate) fn of_script(registry: Registry, platform: Platform) -> Core
         requires { registry.frozen ≡ true }
         ensures { result ≡ without_images registry.handlers platform }
     {
-        Core { registry, platform }
+        Core {
+            parts: CoreParts::Scripted(registry, platform),
+        }
     }
 
-    /// How many images are loaded: none yet.
-    pub fn images(&self) -> u32
-        ensures { result ≡ 0 }
+    /// The core that has these tables, which a boot left.
+    pub(crate) fn of_tables(tables: Tables<PlainFrames>) -> Core
+        requires { AreBooted tables }
+        ensures { result ≡ core_of_tables tables }
     {
-        0
+        Core {
+            parts: CoreParts::Booted(tables),
+        }
     }
 
-    /// How many handlers there are.
+    /// How many images are loaded: 32 at most.
+    pub fn images(&self) -> u32
+        ensures { result ≡ length self.now.site.supervised.images }
+    {
+        match &self.parts {
+            CoreParts::Scripted(..) => 0,
+            CoreParts::Booted(tables) => tables.images(),
+        }
+    }
+
+    /// The name of an image, which is there.
+    pub fn name(&self, image: u32) -> Guid
+        requires { image < length self.now.site.supervised.images }
+        ensures { result ≡ name_at self.now.site.supervised.images image }
+    {
+        match &self.parts {
+            CoreParts::Scripted(..) => unreachable!(),
+            CoreParts::Booted(tables) => tables.name(image),
+        }
+    }
+
+    /// How many handlers there are: 321 at most.
     pub fn handlers(&self) -> u32
         ensures { result ≡ length self.now.site.handlers }
     {
-        self.registry.len() as u32
+        match &self.parts {
+            CoreParts::Scripted(registry, _) => registry.len() as u32,
+            CoreParts::Booted(tables) => tables.handlers() as u32,
+        }
     }
 
     /// The handler at place `k` of all, in order of registration; None past the last.
     pub fn handler(&self, k: u32) -> Option<Handler>
         ensures { result ≡ slice_get self.now.site.handlers k }
     {
-        self.registry.all(k)
+        match &self.parts {
+            CoreParts::Scripted(registry, _) => registry.all(k),
+            CoreParts::Booted(tables) => tables.handler(k),
+        }
+    }
+
+    /// How many interfaces are installed: 512 at most.
+    pub fn protocols(&self) -> u32
+        ensures { result ≡ length self.now.site.interfaces.rows }
+    {
+        match &self.parts {
+            CoreParts::Scripted(..) => 0,
+            CoreParts::Booted(tables) => tables.interfaces() as u32,
+        }
     }
 
     /// Whether a handler is registered for this GUID. It costs one step a handler.
     pub(crate) fn has_handler(&self, guid: Guid) -> bool
         ensures { result ≡ not (has_none (chain_of (Some guid) self.now.site.handlers)) }
     {
-        self.registry.chain(guid, 0).is_some()
+        match &self.parts {
+            CoreParts::Scripted(registry, _) => registry.chain(guid, 0).is_some(),
+            CoreParts::Booted(tables) => tables.chain(guid, 0).is_some(),
+        }
     }
 
     /// The memory of an entry whose request has `bytes` bytes at most. It costs one step a handler.

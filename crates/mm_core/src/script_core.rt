@@ -31,7 +31,7 @@ pub fn scripted(
     }
     registry.freeze();
     let platform = Platform::new(alloc, opening)?;
-    Ok(Core::new(registry, platform))
+    Ok(Core::of_script(registry, platform))
 }
 
 /// Registers a handler of the core's own, where there is place for it.

@@ -1,3 +1,4 @@
+pub mod BootLemmas
 pub mod DriveLemmas
 pub mod OneSourceLemmas
 pub mod RunLemmas

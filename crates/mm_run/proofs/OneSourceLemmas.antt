@@ -11,7 +11,7 @@ use Rattle.mm_run.specs.RunWorld.{StandsForScript}
 use Rattle.mm_run.specs.SourceKinds.{most_of, IsGoodAs}
 use Rattle.mm_run.specs.Sources.{NamedSource, sources_named, HasFailed, WasRead, StopsRun, Wanting, RunStops, AllRead, HoldsGood, AllHoldGood, HoldsFault, FaultHeld, FirstBad, OthersAreUntouched}
 use Rattle.mm_run.specs.declared.command.Command.{Command}
-use Rattle.mm_run.specs.declared.command.Command.TheVariants.{Script, Check}
+use Rattle.mm_run.specs.declared.command.Command.TheVariants.{Script, Check, Boot}
 use Rattle.mm_run.specs.declared.status.Status.{Status}
 
 -- a run stops at its one source; where memory was refused in the run itself, at most as many bytes came as may
@@ -47,6 +47,7 @@ pub second_untouched : (named : Option Command) (First Second : Type 0) → Othe
 second_untouched None First Second others = others.1
 second_untouched (Some Script) First Second others = others
 second_untouched (Some Check) First Second others = others
+second_untouched (Some Boot) First Second others = others
 
 pub first_untouched : (First Second : Type 0) → OthersAreUntouched (sources_named None) First Second → First
 first_untouched First Second others = others.0

@@ -32,7 +32,7 @@ use Rattle.mm_run.specs.SourceKinds.{most_of, IsGoodAs, IsFaultyAs}
 use Rattle.mm_run.specs.Sources.{Seen, NamedSource, sources, sources_of, sources_named, HasFailed, WasRead, WasGood, StopsRun, Unreadable, Long, Faulty, Wanting, RunStops, AllRead, HoldsGood, AllHoldGood, HoldsFault, HoldsBad, FaultHeld, TooMuchHeld, FirstBad, OthersAreUntouched}
 use Rattle.mm_run.specs.Status.{writes}
 use Rattle.mm_run.specs.declared.command.Command.{Command}
-use Rattle.mm_run.specs.declared.command.Command.TheVariants.{Script as ScriptCommand, Check}
+use Rattle.mm_run.specs.declared.command.Command.TheVariants.{Script as ScriptCommand, Check, Boot}
 use Rattle.mm_run.specs.declared.made.Made.{Made}
 use Rattle.mm_run.specs.declared.source_kind.SourceKind.{SourceKind}
 use Rattle.mm_run.specs.declared.source_kind.SourceKind.TheVariants.{ScriptText, VolumeBytes}
@@ -91,6 +91,9 @@ made_good : (command : Command) (bytes : List ℕ) (made : Made) → IsMadeOf co
 made_good ScriptCommand bytes made of = record { script = of.script; is = of.says }
 made_good Check bytes made of =
     record { volume = of.report.volume; is = of.report.is; policy = of.report.policy; policy_is = of.report.policy_is }
+made_good Boot bytes made of =
+    let report = of.report.report in
+    record { volume = of.report.volume; is = of.report.is; policy = report.policy; policy_is = report.policy_is }
 
 made_report : (command : Command) (bytes : List ℕ) (made : Made) → IsMadeOf command bytes made → IsReport command (bytes ∷ []) made.text
 made_report ScriptCommand bytes made of = record {
@@ -101,6 +104,8 @@ made_report ScriptCommand bytes made of = record {
   reported = of.by_script.driven.reported;
 }
 made_report Check bytes made of = record { bytes = bytes; given = refl; report = of.report }
+made_report Boot bytes made of =
+    record { bytes = bytes; given = refl; volume = of.report.volume; is = of.report.is; report = of.report.report }
 
 -- ---- what a source gave
 
@@ -229,6 +234,7 @@ good_not_bad s fault w (TooMuchHeld calm much is) = not_too_much (most_of s.kind
 one_is : (command : Command) (first second : Seen) → one_source command first ∷ [] ≡ sources (sources_of command) first second
 one_is ScriptCommand first second = refl
 one_is Check first second = refl
+one_is Boot first second = refl
 
 -- so what holds of the one holds of all
 pub of_sources : (P : List NamedSource → Type 0) (command : Command) (first second : Seen)
@@ -239,6 +245,7 @@ of_sources P command first second = subst P (one_is command first second)
 pub others_untouched : (command : Command) (First Second : Type 0) → Second → OthersAreUntouched (sources_of command) First Second
 others_untouched ScriptCommand First Second second = second
 others_untouched Check First Second second = second
+others_untouched Boot First Second second = second
 
 -- all that holds good stops out of memory alone
 pub stopped_good : (s : NamedSource) (status : Status) → StopsRun s status → AllHoldGood (s ∷ []) → status ≡ NoMemory out_of_memory
@@ -401,6 +408,7 @@ pub made_stands : (command : Command) (seen : Seen) (made : Made)
     → OfWorld (StandsForScript command (one_source command seen ∷ [])) made.world
 made_stands ScriptCommand seen made m is = script_stands seen made m.bytes m.read m.of_bytes
 made_stands Check seen made m is = absurd (let u : false ≡ true = is in cc)
+made_stands Boot seen made m is = absurd (let u : false ≡ true = is in cc)
 
 pub made_headline : (command : Command) (seen : Seen) (before now : Option (List ℕ)) (status : Status) (made : Made)
     → IsMade command seen made
@@ -412,6 +420,7 @@ pub made_headline : (command : Command) (seen : Seen) (before now : Option (List
 made_headline ScriptCommand seen before now status made m is ends done front =
     script_headline seen made m.bytes m.read m.of_bytes before now status ends done front
 made_headline Check seen before now status made m is ends done front = absurd (let u : false ≡ true = is in cc)
+made_headline Boot seen before now status made m is ends done front = absurd (let u : false ≡ true = is in cc)
 
 -- and one that drives none hands out none
 pub made_worldless : (command : Command) (seen : Seen) (made : Made)
@@ -420,3 +429,4 @@ pub made_worldless : (command : Command) (seen : Seen) (made : Made)
     → made.world ≡ None
 made_worldless ScriptCommand seen made m is = absurd (let u : true ≡ false = is in cc)
 made_worldless Check seen made m is = m.of_bytes.none
+made_worldless Boot seen made m is = m.of_bytes.none

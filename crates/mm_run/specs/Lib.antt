@@ -1,3 +1,4 @@
+pub mod BootRun
 pub mod CheckRun
 pub mod Command
 pub mod Run

@@ -10,18 +10,20 @@ use Rattle.mm_run.specs.Run.{Shows}
 use Rattle.mm_run.specs.ScriptRun.{core_of, run_report, IsTextOf}
 use Rattle.mm_run.specs.Sources.{NamedSource, AllRead}
 use Rattle.mm_run.specs.declared.command.Command.{Command}
-use Rattle.mm_run.specs.declared.command.Command.TheVariants.{Script as ScriptCommand, Check}
+use Rattle.mm_run.specs.declared.command.Command.TheVariants.{Script as ScriptCommand, Check, Boot}
 use Rattle.mm_run.specs.declared.status.Status.{Status}
 
 -- This is the script that a command's sources spell, where it drives a world.
 abbrev pub IsScriptOf : Command → List (List ℕ) → Script → Type 0
 IsScriptOf ScriptCommand contents script = IsTextOf contents script
 IsScriptOf Check contents script = ⊥
+IsScriptOf Boot contents script = ⊥
 
 -- This is the core that its world begins with.
 abbrev pub IsCoreOf : Command → List (List ℕ) → Script → CoreState → Type 0
 IsCoreOf ScriptCommand contents script core = core ≡ core_of script
 IsCoreOf Check contents script core = ⊥
+IsCoreOf Boot contents script core = ⊥
 
 -- A command's sources were read to their ends; they spell this script, and its world begins with this core.
 pub record Drives (command : Command) (sources : List NamedSource) (script : Script) (core : CoreState) : Type 0 where

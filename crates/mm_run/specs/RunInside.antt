@@ -2,6 +2,7 @@
 -- What the private functions of a run make of the bytes of a source.
 use Rattle.std.specs.Prelude.{◌≡◌, ◌⊎◌, ℕ, List, [], ◌∷◌, true, Some, None}
 use Rattle.mm_base.specs.End.{out_of_memory}
+use Rattle.mm_base.specs.declared.volume.Volume.{Volume}
 use Rattle.comm_core.specs.Capture.{trace_of}
 use Rattle.comm_core.specs.WorldPast.{StandsForEvents}
 use Rattle.comm_core.specs.WorldState.{WorldState, lane_values}
@@ -9,12 +10,14 @@ use Rattle.comm_core.specs.declared.script.Script.{Script}
 use Rattle.mm_core.specs.CoreState.{CoreState}
 use Rattle.mm_core.specs.EntryStep.{core_step}
 use Rattle.mm_text.specs.ScriptText.{IsScript}
+use Rattle.volume_reader.specs.VolumeGrammar.{IsVolume}
+use Rattle.mm_run.specs.BootRun.{IsVolumeBootReport}
 use Rattle.mm_run.specs.CheckRun.{IsVolumeReport}
 use Rattle.mm_run.specs.ScriptRun.{core_of, past_of, entries_of, lanes_of, report_for}
 use Rattle.mm_run.specs.SourceKinds.{IsFaultyAs}
 use Rattle.mm_run.specs.Sources.{NamedSource, Seen, source, WasRead}
 use Rattle.mm_run.specs.declared.command.Command.{Command}
-use Rattle.mm_run.specs.declared.command.Command.TheVariants.{Script as ScriptCommand, Check}
+use Rattle.mm_run.specs.declared.command.Command.TheVariants.{Script as ScriptCommand, Check, Boot}
 use Rattle.mm_run.specs.declared.made.Made.{Made}
 use Rattle.mm_run.specs.declared.source_kind.SourceKind.{SourceKind}
 use Rattle.mm_run.specs.declared.source_kind.SourceKind.TheVariants.{ScriptText, VolumeBytes}
@@ -26,6 +29,7 @@ use Rattle.mm_run.specs.declared.status.Which.TheVariants.{First}
 abbrev pub one_kind : Command → SourceKind
 one_kind ScriptCommand = ScriptText
 one_kind Check = VolumeBytes
+one_kind Boot = VolumeBytes
 
 -- that source
 abbrev pub one_source : Command → Seen → NamedSource
@@ -57,10 +61,22 @@ pub record IsMadeOfVolume (bytes : List ℕ) (made : Made) : Type 0 where
   pub none : made.world ≡ None
   pub report : IsVolumeReport bytes made.text
 
+-- This is the report of the boot of the volume that bytes are.
+pub record IsReportOfBoot (bytes text : List ℕ) : Type 0 where
+  pub volume : Volume
+  pub is : IsVolume bytes volume
+  pub report : IsVolumeBootReport bytes volume text
+
+-- What was made of the bytes of a volume that is booted: the report of its boot, and no world.
+pub record IsMadeOfBoot (bytes : List ℕ) (made : Made) : Type 0 where
+  pub none : made.world ≡ None
+  pub report : IsReportOfBoot bytes made.text
+
 -- What was made of the bytes of a command's source.
 abbrev pub IsMadeOf : Command → List ℕ → Made → Type 0
 IsMadeOf ScriptCommand bytes made = IsMadeOfScript bytes made
 IsMadeOf Check bytes made = IsMadeOfVolume bytes made
+IsMadeOf Boot bytes made = IsMadeOfBoot bytes made
 
 -- What was made of a source that was read to its end.
 pub record IsMade (command : Command) (seen : Seen) (made : Made) : Type 0 where

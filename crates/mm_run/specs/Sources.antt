@@ -9,7 +9,7 @@ use Rattle.mm_io.specs.Causes.{Rose}
 use Rattle.mm_io.specs.Streams.{GivesAll, GivesAtMost, GivesMoreThan, HasMoreThan}
 use Rattle.mm_run.specs.SourceKinds.{most_of, IsGoodAs, IsFaultyAs}
 use Rattle.mm_run.specs.declared.command.Command.{Command}
-use Rattle.mm_run.specs.declared.command.Command.TheVariants.{Script, Check}
+use Rattle.mm_run.specs.declared.command.Command.TheVariants.{Script, Check, Boot}
 use Rattle.mm_run.specs.declared.source_kind.SourceKind.{SourceKind}
 use Rattle.mm_run.specs.declared.source_kind.SourceKind.TheVariants.{ScriptText, VolumeBytes}
 use Rattle.mm_run.specs.declared.status.Status.{Status}
@@ -21,6 +21,7 @@ use Rattle.mm_run.specs.declared.status.Which.TheVariants.{First, Second}
 abbrev pub sources_of : Command → List SourceKind
 sources_of Script = ScriptText ∷ []
 sources_of Check = VolumeBytes ∷ []
+sources_of Boot = VolumeBytes ∷ []
 
 -- those of words, which name no source where they are of no form
 abbrev pub sources_named : Option Command → List SourceKind

@@ -13,6 +13,8 @@ pub enum Command {
     Script,
     /// `check`: a firmware volume is read, and its files are listed.
     Check,
+    /// `boot`: the drivers of a firmware volume are started, and what they did is told.
+    Boot,
 }
 
 impl Command {
@@ -22,7 +24,7 @@ impl Command {
     {
         match (self, which) {
             (Command::Script, Which::First) => Some(SourceKind::ScriptText),
-            (Command::Check, Which::First) => Some(SourceKind::VolumeBytes),
+            (Command::Check | Command::Boot, Which::First) => Some(SourceKind::VolumeBytes),
             (_, Which::Second) => None,
         }
     }
@@ -36,6 +38,7 @@ pub fn command_of(words: &[String]) -> Option<Command>
         [name, _] => match name.as_str() {
             "script" => Some(Command::Script),
             "check" => Some(Command::Check),
+            "boot" => Some(Command::Boot),
             _ => None,
         },
         _ => None,

@@ -1,7 +1,8 @@
 //! Floor: program. It promises that a command ends with the status that its sources' bytes and faults give, and that what is
-//! written is the report of the world that a script drives or of the volume that bytes are. It never opens a file or prints.
+//! written is the report of the world that a script drives, of the volume that bytes are, or of its boot. It never opens a file or prints.
 #![tactic(auto)]
 
+mod boot_run;
 mod check_run;
 mod command;
 mod drive;

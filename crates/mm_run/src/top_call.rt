@@ -14,6 +14,7 @@ ghost use Rattle.mm_run.specs.Status.{writes, has_no_world};
 ghost use Rattle.mm_run.specs.declared.command.Command.{Command as CommandValue};
 ghost use Rattle.mm_run.specs.declared.status.Status.{Status as StatusValue};
 
+use crate::boot_run::boot_bytes;
 use crate::check_run::check_volume;
 use crate::command::{Command, command_of};
 use crate::made::Made;
@@ -35,9 +36,9 @@ pub struct RunEnd {
     pub world: Option<World<Core>>,
 }
 
-/// Does all that the program does. The words are `script` or `check` and one word more: the script or the volume is the first
+/// Does all that the program does. The words are `script`, `check` or `boot` and one word more: the script or the volume is the first
 /// source, and the report goes to the sink. A script costs a step for each byte read and written and for each action of the
-/// processor; a volume what `catalog` of `mm_core` says.
+/// processor; a volume what `catalog` of `mm_core` says; and its boot that and what `boot` of `mm_core` says.
 pub fn run<V: Source, S: Source, K: Sink>(
     alloc: Global,
     words: &Vec<String>,
@@ -170,6 +171,10 @@ fn make<V: Source>(alloc: Global, command: Command, first: &mut V) -> Result<Mad
         Command::Check => {
             let volume = read(alloc, SourceKind::VolumeBytes, Which::First, first)?;
             check_volume(alloc, volume.as_slice())
+        }
+        Command::Boot => {
+            let volume = read(alloc, SourceKind::VolumeBytes, Which::First, first)?;
+            boot_bytes(alloc, volume.as_slice())
         }
     }
 }

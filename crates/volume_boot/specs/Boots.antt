@@ -1,5 +1,5 @@
 -- The boot of a volume: its drivers are started in rounds, under its policy, and then all is locked.
-use Rattle.std.specs.Prelude.{◌≡◌, ℕ, ◌+◌, ◌==◌, Bool, true, not, List, [], ◌∷◌, ◌++◌, map, filter, Option, Some, None, slice_get}
+use Rattle.std.specs.Prelude.{◌≡◌, ℕ, ◌+◌, ◌≤◌, ◌==◌, Bool, true, not, List, [], ◌∷◌, ◌++◌, length, map, filter, Option, Some, None, slice_get}
 use Rattle.std.specs.List.{list_any}
 use Rattle.std.specs.Option.{option_map_or}
 use Rattle.depex.specs.Expressions.{Expression}
@@ -116,10 +116,11 @@ boot_from drivers loaded host =
     let last = after_starts (start_of loaded) starts opening in
     record { tables = locked last.host.tables; starts = last.starts; waiting = waiting_of starts drivers }
 
--- Tables after a boot: they are locked, and all is in its place in them.
+-- Tables after a boot: they are locked, all is in its place in them, and there are 512 interfaces at most, 16 for each of 32 images.
 pub record AreBooted (tables : TablesState) : Type 0 where
   pub locked : tables.locked ≡ true
   pub orderly : IsOrderly tables
+  pub few : length tables.protocols.rows ≤ 512
 
 -- the policy where a volume has no policy file: no rules, and fuel of 65,536
 abbrev pub default_policy : Policy

@@ -64,9 +64,12 @@ fn lock_tables(host: Host<PlainFrames>) -> Tables<PlainFrames>
     ensures value { result ≡ locked host.tables }
     ensures booted { AreBooted result }
 {
+    host.keeps();
     let mut tables = host.into_tables();
     tables.lock();
+    tables.keeps();
     tables.keeps_order();
+    let _ = tables.interfaces();
     tables
 }
 
