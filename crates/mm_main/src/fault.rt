@@ -13,7 +13,7 @@ pub enum Fault<'a> {
     NoText {
         place: usize,
     },
-    #[error("usage: mm_main script FILE, or mm_main check FILE")]
+    #[error("usage: mm_main script FILE, mm_main check FILE, or mm_main boot FILE")]
     Usage,
     #[error("{name:?}, byte {at:#x}: {why}")]
     BadVolume {

@@ -29,4 +29,4 @@ pub known : (bytes : List ℕ) (files : List File) (policy : Option Policy) → 
     → (end_of : End PolicyFault) → EndsBy (HasVolumePolicyFault bytes files) end_of
     → status_of_policy end_of ≡ NoMemory out_of_memory
 known bytes files policy is (end.Fault fault) has = absurd (never_policy_and_fault bytes files policy fault is has)
-known bytes files policy is (end.NoMemory refused) has = ap NoMemory has
+known bytes files policy is (end.NoMemory refused) has = refl
