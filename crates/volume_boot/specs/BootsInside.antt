@@ -1,11 +1,11 @@
 -- No public clause cites this file.
 -- What the steps of a boot pass on.
-use Rattle.std.specs.Prelude.{◌≡◌, ℕ, ◌+◌, ◌<◌, Bool, false, if◌then◌else◌, List, [], ◌∷◌, ◌++◌, map, length, All, Option, Some, None}
+use Rattle.std.specs.Prelude.{◌≡◌, ℕ, ◌<◌, Bool, false, if◌then◌else◌, List, [], ◌∷◌, map, length, All, Option}
 use Rattle.std.specs.Option.{option_map, option_map_or}
 use Rattle.depex.specs.Expressions.{Expression}
 use Rattle.dispatcher.specs.declared.driver.Driver.{Driver}
 use Rattle.driver_start.specs.Hosts.{HostState}
-use Rattle.driver_start.specs.Starts.{DriverState, Loadable}
+use Rattle.driver_start.specs.Starts.{DriverState}
 use Rattle.driver_start.specs.Forms.{loadable_of}
 use Rattle.driver_start.specs.declared.record.StartRecord.{StartRecord}
 use Rattle.file_words.specs.CatalogLaws.{is_started_word}
