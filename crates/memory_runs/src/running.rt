@@ -1,7 +1,7 @@
 //! Runs of the top call over sources and sinks in memory.
 use mm_base::{Bytes, List, NoMemory};
 use mm_io::{MemorySink, MemorySource, Source};
-use mm_run::{Status, run};
+use mm_run::{RunEnd, Status, run};
 use std::alloc::Global;
 
 /// How many bytes a sink takes in all, where its maker doesn't say.
@@ -35,6 +35,11 @@ fn words_of(alloc: Global, all: &[&str]) -> Result<Vec<String>, NoMemory> {
     Ok(words)
 }
 
+/// The status of a run, and whether it handed out a world, which is given up.
+fn parts_of(end: RunEnd) -> (Status, bool) {
+    (end.status, end.world.is_some())
+}
+
 /// How a run of these words over these sources ended. It costs what `run` costs, and a step for each byte written.
 pub fn ran_over<V: Source + Drop, S: Source + Drop>(
     alloc: Global,
@@ -44,10 +49,10 @@ pub fn ran_over<V: Source + Drop, S: Source + Drop>(
     mut out: MemorySink,
 ) -> Result<Seen, NoMemory> {
     let words = words_of(alloc, words)?;
-    let end = run(alloc, &words, &mut first, &mut second, &mut out);
+    let (status, world) = parts_of(run(alloc, &words, &mut first, &mut second, &mut out));
     Ok(Seen {
-        status: end.status,
-        world: end.world.is_some(),
+        status,
+        world,
         faults: first.faults(),
         written: List::from_slice(alloc, out.written())?,
     })

@@ -10,7 +10,7 @@ mod stopped;
 use cause::Cause;
 use fault::{Fault, RunFacts, SourceFacts};
 use mm_io::{FileSource, OutSink};
-use mm_run::{command_of, run};
+use mm_run::{RunEnd, Status, command_of, run};
 use std::io;
 use std::process::ExitCode;
 use stopped::{Stopped, words};
@@ -26,14 +26,19 @@ fn main(rt: HostRuntime) -> ExitCode {
     let mut first = FileSource::named(&rt, first_name);
     let mut second = FileSource::named(&rt, second_name);
     let mut out = OutSink::new(io::writer(&rt));
-    let end = run(rt.alloc(), &words, &mut first, &mut second, &mut out);
+    let status = status_of(run(rt.alloc(), &words, &mut first, &mut second, &mut out));
     let facts = RunFacts {
         command: command_of(words.as_slice()),
         first: SourceFacts::new(first_name, first.last_error()),
         second: SourceFacts::new(second_name, second.last_error()),
         out: Cause(out.last_error()),
     };
-    ended(&rt, Fault::of(end.status, &facts), end.status.number())
+    ended(&rt, Fault::of(status, &facts), status.number())
+}
+
+/// The status of a run, whose world is given up.
+fn status_of(end: RunEnd) -> Status {
+    end.status
 }
 
 /// A word of the command line; empty, which names no file, where there is none.
