@@ -1,5 +1,5 @@
 -- What a boot comes to, and the names of images one after another.
-use Rattle.std.proofs.Common.{◌≡◌, ◌<◌, ◌≤◌, ℕ, zero, suc, ◌+◌, add-one, List, [], ◌∷◌, ◌++◌, length, map, take, get_or, Option, Result, Ok, Err, IfErr, refl, sym, ap, ◌∙◌, subst, arith}
+use Rattle.std.proofs.Common.{◌≡◌, ◌<◌, ℕ, zero, suc, ◌+◌, add-one, List, [], ◌∷◌, ◌++◌, length, map, take, Option, Result, Ok, Err, IfErr, refl, ap, ◌∙◌, arith}
 use Rattle.std.specs.Result.{IsErrAnd}
 use Rattle.image_table.specs.ImageTable.{name_at}
 use Rattle.image_table.specs.declared.placed_image.PlacedImage.{PlacedImage}

@@ -1,5 +1,5 @@
 -- What the clauses of a run say of a command that has one source.
-use Rattle.std.proofs.Common.{◌≡◌, ◌≤◌, ◌⊎◌, inl, inr, List, [], ◌∷◌, length, ℕ, Some, None, refl, ap}
+use Rattle.std.proofs.Common.{◌≡◌, ◌≤◌, inl, inr, List, [], ◌∷◌, length, ℕ, Some, None, refl}
 use Rattle.std.specs.declared.option.Option.{Option}
 use Rattle.comm_core.specs.WorldHeadline.{HasHeadline}
 use Rattle.comm_core.specs.WorldState.{WorldState}

@@ -1,5 +1,5 @@
 -- What a run comes to, for each command.
-use Rattle.std.proofs.Common.{◌≡◌, ◌≤◌, ◌<◌, ◌⊎◌, inl, inr, ℕ, List, [], ◌∷◌, ◌++◌, length, true, false, Some, None, Result, Ok, Err, IfErr, refl, sym, ap, ◌∙◌, subst, arith}
+use Rattle.std.proofs.Common.{◌≡◌, ◌≤◌, ◌⊎◌, inl, inr, ℕ, List, [], ◌∷◌, ◌++◌, length, true, false, Some, None, Result, Ok, Err, IfErr, refl, sym, ap, ◌∙◌, subst, arith}
 use Rattle.std.proofs.lemmas.List.{append-nil, length-append}
 use Rattle.std.proofs.lemmas.Option.{none-some, same_Some}
 use Rattle.std.specs.Prelude.{String}
@@ -29,7 +29,7 @@ use Rattle.mm_run.specs.RunWorld.{StandsForScript}
 use Rattle.mm_run.specs.RunInside.{one_kind, one_source, IsMadeOfScript, IsMadeOf, IsMade, RefusesBytes}
 use Rattle.mm_run.specs.ScriptRun.{core_of, past_of, lanes_of, run_report, report_for}
 use Rattle.mm_run.specs.SourceKinds.{most_of, IsGoodAs, IsFaultyAs}
-use Rattle.mm_run.specs.Sources.{Seen, NamedSource, sources, sources_of, sources_named, HasFailed, WasRead, WasGood, StopsRun, Unreadable, Long, Faulty, Wanting, RunStops, AllRead, HoldsGood, AllHoldGood, HoldsFault, HoldsBad, FaultHeld, TooMuchHeld, FirstBad, OthersAreUntouched}
+use Rattle.mm_run.specs.Sources.{Seen, NamedSource, sources, sources_of, sources_named, HasFailed, WasRead, WasGood, StopsRun, Unreadable, Long, Faulty, Wanting, HoldsGood, AllHoldGood, HoldsFault, HoldsBad, FaultHeld, TooMuchHeld, FirstBad, OthersAreUntouched}
 use Rattle.mm_run.specs.Status.{writes}
 use Rattle.mm_run.specs.declared.command.Command.{Command}
 use Rattle.mm_run.specs.declared.command.Command.TheVariants.{Script as ScriptCommand, Check, Boot}

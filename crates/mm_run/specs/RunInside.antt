@@ -1,6 +1,6 @@
 -- No public clause cites this file.
 -- What the private functions of a run make of the bytes of a source.
-use Rattle.std.specs.Prelude.{◌≡◌, ◌⊎◌, ℕ, List, [], ◌∷◌, true, Some, None}
+use Rattle.std.specs.Prelude.{◌≡◌, ◌⊎◌, ℕ, List, true, Some, None}
 use Rattle.mm_base.specs.End.{out_of_memory}
 use Rattle.mm_base.specs.declared.volume.Volume.{Volume}
 use Rattle.comm_core.specs.Capture.{trace_of}

@@ -1,5 +1,4 @@
 use Rattle.std.proofs.Common.{◌≡◌, ◌⊎◌, List, None, true, false, inl, refl}
-use Rattle.std.specs.declared.option.Option.{Option}
 use Rattle.mm_base.specs.End.{out_of_memory}
 use Rattle.mm_io.specs.Causes.{Rose}
 use Rattle.mm_io.specs.Streams.{Appends, AppendsFront}
