@@ -81,7 +81,46 @@ listed 'refused pe subsystem at 0000009c' 264=0a
 listed 'refused depex empty' 100=08
 listed 'refused depex noend' 101=06
 
-usage='mm_main: usage: mm_main script FILE, or mm_main check FILE'
+# booted FILE LINE..: the volume is booted, and the report is these lines.
+booted() {
+    local file=$1
+    shift
+    printf '%s\n' "$@" > boot.report
+    ends 0 boot.report '' "$program" boot "$file"
+}
+volume='volume 000001c0 ffs2 files 1'
+file='file 00000048 aaaaaaaa-0000-0000-0000-000000000001 type 0e size 00000174'
+first='start aaaaaaaa-0000-0000-0000-000000000001 round 1'
+none='policy none fuel 65536'
+nothing='locked images 0 handlers 0 protocols 0'
+booted sample.fd "$volume" "$file driver" "$none" "$first returned 0000000000000000" 'locked images 1 handlers 1 protocols 0'
+
+# The second driver is denied its port, and fails: its image is gone at lock.
+"$top/tests/sample-volume.sh" two.fd two
+booted two.fd 'volume 00000308 ffs2 files 2' "$file driver" \
+    'file 000001c0 bbbbbbbb-0000-0000-0000-000000000002 type 0e size 00000146 driver' "$none" \
+    "$first returned 0000000000000000" \
+    'start bbbbbbbb-0000-0000-0000-000000000002 round 1 returned 800000000000000f' \
+    '  deny io read 0000000000000072 1 norule' \
+    'locked images 1 handlers 1 protocols 0'
+booted empty.fd 'volume 00000048 ffs2 files 0' "$none" "$nothing"
+
+# booted_as WORDS EDIT LINE..: the sample volume with this edit is booted, its file is taken for this, and these are the last lines.
+booted_as() {
+    local words=$1
+    cp sample.fd changed.fd
+    changed changed.fd "$2"
+    shift 2
+    booted changed.fd "$volume" "$file $words" "$none" "$@"
+}
+booted_as native 176=6486 "$nothing"
+booted_as 'refused depex empty' 100=08 "$nothing"
+# An expression that is false; an entry that begins with an opcode that there isn't, and one that is denied what it reads first, at 70.
+booted_as driver 100=07 'waiting aaaaaaaa-0000-0000-0000-000000000001' "$nothing"
+booted_as driver 364=2700 "$first fault encoding at 0000000080000100" "$nothing"
+booted_as driver 364=773170002091 "$first denied range at 0000000000000070" '  deny mem read 0000000000000070 8 range' "$nothing"
+
+usage='mm_main: usage: mm_main script FILE, mm_main check FILE, or mm_main boot FILE'
 ends 1 - "$usage" "$program"
 ends 1 - "$usage" "$program" script
 ends 1 - "$usage" "$program" script version.script more
@@ -89,8 +128,11 @@ ends 1 - "$usage" "$program" Script version.script
 ends 1 - "$usage" "$program" check
 ends 1 - "$usage" "$program" check sample.fd more
 ends 1 - "$usage" "$program" Check sample.fd
+ends 1 - "$usage" "$program" boot
+ends 1 - "$usage" "$program" boot sample.fd more
+ends 1 - "$usage" "$program" Boot sample.fd
 ends 1 - "$usage" "$program" --help
-for form in 'serve V' 'serve V S' 'boot V' 'live V W' 'gen 0' 'gen 10' 'convert V' 'audit V' 'verify V T'; do
+for form in 'serve V' 'serve V S' 'live V W' 'gen 0' 'gen 10' 'convert V' 'audit V' 'verify V T'; do
     # shellcheck disable=SC2086
     ends 1 - "$usage" "$program" $form
 done
@@ -104,15 +146,19 @@ ends 1 - "$usage" timeout 5 "$program" Script pipe
 ends 1 - "$usage" timeout 5 "$program" script pipe more
 ends 1 - "$usage" timeout 5 "$program" script version.script pipe
 ends 1 - "$usage" timeout 5 "$program" check pipe pipe
+ends 1 - "$usage" timeout 5 "$program" boot pipe pipe
 ends 1 - "$usage" timeout 5 "$program" pipe
 
-# damaged BYTES PLACE WHY EDIT..: the first so many bytes of the sample volume, with these edits, are refused at this place.
+# damaged BYTES PLACE WHY EDIT..: the first bytes of the sample volume, as many as are asked for, with these edits, are refused at this
+# place by both commands that read a volume.
 damaged() {
-    local bytes=$1 place=$2 why=$3
+    local bytes=$1 place=$2 why=$3 command
     shift 3
     head -c "$bytes" sample.fd > damaged.fd
     changed damaged.fd "$@"
-    ends 2 - "mm_main: \"damaged.fd\", byte $place: $why" "$program" check damaged.fd
+    for command in check boot; do
+        ends 2 - "mm_main: \"damaged.fd\", byte $place: $why" "$program" "$command" damaged.fd
+    done
 }
 short='a volume header has at least 64 bytes, and there are fewer'
 damaged 0 0x0 "$short"
@@ -155,10 +201,12 @@ ends 4 - "mm_main: \"\" $not_read: $not_there" "$program" script ''
 mkdir folder.script
 ends 4 - "mm_main: \"folder.script\" $not_read: Is a directory (os error 21)" "$program" script folder.script
 
-ends 4 - "mm_main: \"nowhere.fd\" $not_read: $not_there" "$program" check nowhere.fd
-ends 4 - "mm_main: \"\" $not_read: $not_there" "$program" check ''
 mkdir folder.fd
-ends 4 - "mm_main: \"folder.fd\" $not_read: Is a directory (os error 21)" "$program" check folder.fd
+for command in check boot; do
+    ends 4 - "mm_main: \"nowhere.fd\" $not_read: $not_there" "$program" "$command" nowhere.fd
+    ends 4 - "mm_main: \"\" $not_read: $not_there" "$program" "$command" ''
+    ends 4 - "mm_main: \"folder.fd\" $not_read: Is a directory (os error 21)" "$program" "$command" folder.fd
+done
 
 # A file that may not be read; root may read each.
 if [ "$(id -u)" != 0 ]; then
@@ -166,11 +214,13 @@ if [ "$(id -u)" != 0 ]; then
     chmod 000 closed.script
     ends 4 - "mm_main: \"closed.script\" $not_read: Permission denied (os error 13)" "$program" script closed.script
     ends 4 - "mm_main: \"closed.script\" $not_read: Permission denied (os error 13)" "$program" check closed.script
+    ends 4 - "mm_main: \"closed.script\" $not_read: Permission denied (os error 13)" "$program" boot closed.script
 fi
 
 if [ -e /dev/full ]; then
     ends 5 - 'mm_main: standard output could not be written: No space left on device (os error 28)' full "$program" script version.script
     ends 5 - 'mm_main: standard output could not be written: No space left on device (os error 28)' full "$program" check sample.fd
+    ends 5 - 'mm_main: standard output could not be written: No space left on device (os error 28)' full "$program" boot sample.fd
 fi
 
 head -c 4194305 /dev/zero | tr '\0' '\n' > long.script
@@ -180,10 +230,12 @@ ends 0 version.report '' "$program" script whole.script
 
 head -c 16777217 /dev/zero > long.fd
 ends 6 - 'mm_main: "long.fd" has more than 16777216 bytes' "$program" check long.fd
+ends 6 - 'mm_main: "long.fd" has more than 16777216 bytes' "$program" boot long.fd
 head -c 16777216 /dev/zero > zeros.fd
 ends 2 - "mm_main: \"zeros.fd\", byte 0x28: a volume has its signature here, _FVH, and this isn't it" "$program" check zeros.fd
 head -c $((16777216 - 448)) /dev/zero | cat sample.fd - > whole.fd
 ends 0 sample.report '' "$program" check whole.fd
+booted whole.fd "$volume" "$file driver" "$none" "$first returned 0000000000000000" 'locked images 1 handlers 1 protocols 0'
 
 echo "program.sh: $passed passed, $failed failed"
 [ "$failed" = 0 ]

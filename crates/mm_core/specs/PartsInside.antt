@@ -1,4 +1,5 @@
--- What a core consists of. No public clause cites this file but a core's model.
+-- No public clause cites this file.
+-- What a core consists of, for its model.
 use Rattle.std.specs.Prelude.{◌≡◌, true}
 use Rattle.mm_core.specs.CoreState.{CoreState, core_of_tables, without_images}
 use Rattle.mm_core.specs.declared.core_parts.CoreParts.{CoreParts}

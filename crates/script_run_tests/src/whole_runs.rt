@@ -276,8 +276,10 @@ const NO_FORMS: &[&[&str]] = &[
     &["check", "V", "more"],
     &["Check", "V"],
     &["chec", "V"],
+    &["boot"],
+    &["boot", "V", "more"],
+    &["Boot", "V"],
     &["serve", "V", "S"],
-    &["boot", "V"],
     &["V"],
     &["", ""],
 ];

@@ -50,7 +50,7 @@ fn names_what_was_refused(rt: HostRuntime) -> Result<(), Fail> {
         (
             None,
             Status::Usage,
-            "usage: mm_main script FILE, or mm_main check FILE",
+            "usage: mm_main script FILE, mm_main check FILE, or mm_main boot FILE",
         ),
         (
             Some(Command::Script),
