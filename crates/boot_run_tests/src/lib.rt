@@ -3,4 +3,18 @@
 #![tactic(auto)]
 
 #[cfg(test)]
+mod cases;
+#[cfg(test)]
+mod code;
+#[cfg(test)]
+mod ends;
+#[cfg(test)]
+mod many_drivers;
+#[cfg(test)]
+mod refusals;
+#[cfg(test)]
+mod rounds;
+#[cfg(test)]
 mod sample_boots;
+#[cfg(test)]
+mod services;
