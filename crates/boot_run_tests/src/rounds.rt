@@ -84,17 +84,6 @@ const SAMPLE: Part = Part {
     body: DRIVER,
 };
 
-/// A policy file with this body.
-const fn policy_file(body: &'static [Layout]) -> Part {
-    Part {
-        name: POLICY_NAME,
-        kind: 0x02,
-        attributes: 0,
-        off: 0,
-        body,
-    }
-}
-
 /// A policy that gives 65,536 of fuel, and one rule: the sample driver may read port 70 (hexadecimal).
 const ALL_FUEL: &[Layout] = &[Layout {
     length: 60,
@@ -106,7 +95,16 @@ const ALL_FUEL: &[Layout] = &[Layout {
     ],
 }];
 
-const RULED: &[Part] = &[policy_file(ALL_FUEL), SAMPLE];
+const RULED: &[Part] = &[
+    Part {
+        name: POLICY_NAME,
+        kind: 0x02,
+        attributes: 0,
+        off: 0,
+        body: ALL_FUEL,
+    },
+    SAMPLE,
+];
 
 const RULED_REPORT: &[&[u8]] = &[
     b"volume 00000218 ffs2 files 2
@@ -141,7 +139,16 @@ const TEN_OF_FUEL: &[Layout] = &[Layout {
     ],
 }];
 
-const SHORT: &[Part] = &[policy_file(TEN_OF_FUEL), SAMPLE];
+const SHORT: &[Part] = &[
+    Part {
+        name: POLICY_NAME,
+        kind: 0x02,
+        attributes: 0,
+        off: 0,
+        body: TEN_OF_FUEL,
+    },
+    SAMPLE,
+];
 
 /// The eleventh unit would be that of the service, which the CALL at 11A (hexadecimal) of the image asks for.
 const SHORT_REPORT: &[&[u8]] = &[
