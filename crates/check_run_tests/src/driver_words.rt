@@ -3,69 +3,11 @@
 use memory_runs::is_listed;
 use mm_base::NoMemory;
 use sample_volumes::{
-    Contents, Driver, Layout, NATIVE, NO_RULES, POLICY_NAME, Part, SOUND, TEXT, TRUE, USUAL,
-    edited, volume_with,
+    Contents, Driver, NATIVE, NO_RULES, POLICY_NAME, Part, SOUND, TEXT, TRUE, usual_volume,
+    volume_with,
 };
 use std::alloc::Global;
 use std::test::Fail;
-
-/// A name with a size of 20 bytes behind it, as a volume's extended header has.
-const EXTENDED_HEADER: Layout = Layout {
-    length: 20,
-    pieces: &[(0, b"the volume's own\x14")],
-};
-
-/// A pad file around the extended header, the policy, and a file of another type.
-const FRONT: &[Part] = &[
-    Part {
-        name: b"\xff\xff\xff\xff\xff\xff\xff\xff\xff\xff\xff\xff\xff\xff\xff\xff",
-        kind: 0xf0,
-        attributes: 0,
-        off: 0,
-        body: &[EXTENDED_HEADER],
-    },
-    Part {
-        name: POLICY_NAME,
-        kind: 0x02,
-        attributes: 0,
-        off: 0,
-        body: NO_RULES,
-    },
-    Part {
-        name: b"the core, number",
-        kind: 0x0d,
-        attributes: 0,
-        off: 0,
-        body: TEXT,
-    },
-];
-
-/// A driver for x64, one that is compressed, and two of byte code.
-const USUAL_DRIVERS: &[Driver] = &[
-    (b"driver number 01", &[TRUE, NATIVE, USUAL]),
-    (
-        b"driver number 02",
-        &[TRUE, (0x01, Contents::Bytes(b"\0\0\0\0\x01")), USUAL],
-    ),
-    (b"driver number 03", &[TRUE, SOUND, USUAL]),
-    (
-        b"driver number 04",
-        &[
-            (0x1c, Contents::Bytes(b"\x01driver number 03\x08")),
-            SOUND,
-            USUAL,
-        ],
-    ),
-];
-
-/// A pad file.
-const BACK: &[Part] = &[Part {
-    name: b"\xff\xff\xff\xff\xff\xff\xff\xff\xff\xff\xff\xff\xff\xff\xff\xff",
-    kind: 0xf0,
-    attributes: 0,
-    off: 0,
-    body: TEXT,
-}];
 
 const USUAL_REPORT: &[&[u8]] = &[
     b"volume 000005d0 ffs2 files 7
@@ -79,19 +21,12 @@ file 000005b0 ffffffff-ffff-ffff-ffff-ffffffffffff type f0 size 0000001c pad
 ",
 ];
 
-/// Whether the usual volume, whose header tells its extended header, is listed so.
-fn is_usual_listed(alloc: Global) -> Result<bool, NoMemory> {
-    let plain = volume_with(alloc, FRONT, USUAL_DRIVERS, BACK)?;
-    let length = plain.len();
-    let edits = &[(50, b"\xa2\xe7\x60\0" as &[u8])];
-    let volume = edited(alloc, plain.as_slice(), length, edits)?;
-    is_listed(alloc, volume.as_slice(), USUAL_REPORT)
-}
-
 /// The first file stands behind the extended header, and so the pad file around that isn't listed.
 #[test]
 fn lists_a_usual_volume(rt: HostRuntime) -> Result<(), Fail> {
-    assert!(rt; is_usual_listed(rt.alloc())?);
+    let alloc = rt.alloc();
+    let volume = usual_volume(alloc)?;
+    assert!(rt; is_listed(alloc, volume.as_slice(), USUAL_REPORT)?);
     Ok(())
 }
 

@@ -5,5 +5,7 @@
 mod checks;
 mod running;
 
-pub use checks::{CHECK, is_listed, is_listed_last, is_refused};
+pub use checks::{
+    BOOT, CHECK, is_boot_refused, is_booted, is_booted_last, is_listed, is_listed_last, is_refused,
+};
 pub use running::{Seen, many, ran, ran_over, sink, sink_of, source};

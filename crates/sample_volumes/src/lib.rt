@@ -3,9 +3,11 @@
 #![tactic(auto)]
 
 mod drivers;
+mod usual;
 mod volumes;
 
 pub use drivers::{Contents, Driver, NATIVE, SOUND, Section, TRUE, USUAL, volume_with};
+pub use usual::usual_volume;
 pub use volumes::{
     COMPRESSED, COMPRESSED_BEHIND, DRIVER, DRIVER_AND_REST, EMPTY, GUID_DEFINED, IMAGE,
     LONG_SECTION, Layout, NO_IMAGE, NO_RULES, ONE_FILE, ONE_RULE, POLICY_NAME, Part, Piece,
