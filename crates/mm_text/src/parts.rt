@@ -13,7 +13,7 @@ pub struct Locked {
     pub names: List<Guid>,
     /// How many handlers there are.
     pub handlers: u32,
-    /// How many protocols there are.
+    /// How many protocols there are: an interface on a handle is one.
     pub protocols: u32,
 }
 
