@@ -1,34 +1,13 @@
 //! Floor: supervisor. It promises nothing: it runs a loop of byte code over a flat bus, or over the domain of an image, so that a script can
-//! measure what a unit costs. Its tests are those of domains, through their public calls. It never touches a file.
+//! measure what a unit costs. It never touches a file.
 #![tactic(auto)]
 
-#[cfg(test)]
-mod access_tests;
-#[cfg(test)]
-mod cell_tests;
-#[cfg(test)]
-mod denial_tests;
-#[cfg(test)]
-mod driver_tests;
-#[cfg(test)]
-mod edge_tests;
-#[cfg(test)]
-mod interface_tests;
-#[cfg(test)]
-mod invocations;
 mod looping;
-mod making;
-#[cfg(test)]
-mod pool_tests;
-#[cfg(test)]
-mod service_tests;
-#[cfg(test)]
-mod two_images;
 
 use crate::looping::{LOOP, loop_over};
-use crate::making::domain_with;
 use ebc_machine::FlatBus;
 use mm_base::{Ended, List};
+use sample_domains::domain_with;
 use std::alloc::Global;
 use std::env::Args;
 use std::rt::Env;

@@ -3,7 +3,7 @@
 //! pages, and the reserve of 16. The region of the first image begins at 80000000: its stack at 80001000, its communicate page at
 //! 80005000, its service page at 80006000, its pool at 80007000, and its reserve at 80017000, which ends at 80027000.
 ghost use Rattle.std.specs.Prelude.{◌≡◌, ◌+◌, ◌≤◌, true, replicate, IfOk, OnOk};
-ghost use Rattle.ebc_speed.specs.TestTables.{IsWholeMemory, IsOneSection, HaveAllPages, HasAllPages};
+ghost use Rattle.sample_domains.specs.TestTables.{IsWholeMemory, IsOneSection, HaveAllPages, HasAllPages};
 
 use mm_base::{Guid, Image, List, NoMemory, Opening, Part, Range, Records, Saved};
 use mm_memory::{Memory, PlainFrames};
@@ -14,7 +14,7 @@ use std::alloc::Global;
 use supervisor_calls::{Domain, Tables, enter};
 
 /// A policy of one rule: all images may read and write the device window.
-pub const DEVICES: &[u8] = b"MMSP\x01\0\0\0\x01\0\0\0\0\0\x01\0\
+const DEVICES: &[u8] = b"MMSP\x01\0\0\0\x01\0\0\0\0\0\x01\0\
     \x01\0\x01\0\x03\0\0\0\0\0\0\0\0\0\0\0\0\0\0\0\0\0\0\0\0\0\0\xfe\0\0\0\0\0\0\x01\0\0\0\0\0";
 
 /// An image: its headers have 100 bytes, and it fills a page.

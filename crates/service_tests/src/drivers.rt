@@ -1,9 +1,8 @@
 //! A driver in byte code that calls each of the 20 services once, before lock and after it. What is expected was worked out by hand.
-use crate::invocations::{KEPT, read, write};
-use crate::two_images::two_images;
 use ebc_machine::{enter as begin, invoke};
 use mm_base::{Bus, Ended, NoMemory, Records, Saved};
 use mm_memory::PlainFrames;
+use sample_domains::{KEPT, read, two_images, write};
 use std::alloc::Global;
 use std::test::Fail;
 use supervisor_calls::{Domain, Tables, enter};

@@ -1,10 +1,9 @@
 //! Accesses at the edges of all ranges of the map and of two images, by each width. What is expected was worked out by hand from the
 //! map and the rules of verdicts; the images and the rules are those of `two_images`.
-use crate::invocations::{read, write};
-use crate::two_images::two_images;
 use mm_base::Why::{Buffer, Mmram, NoRule, Range, Rule};
 use mm_base::{Bus, Denial, Kind, NoMemory, Records, Right, Saved, Target, Why};
 use mm_memory::PlainFrames;
+use sample_domains::{read, two_images, write};
 use std::alloc::Global;
 use std::test::Fail;
 use supervisor_calls::{Domain, Tables, enter};

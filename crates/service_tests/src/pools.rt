@@ -1,12 +1,12 @@
 //! Services of an image's pool and of its reserve of pages. What is expected was worked out by hand.
-use crate::invocations::Answer::{Refuses, Sets};
-use crate::invocations::Step::{Call, Look, Put};
-use crate::invocations::{
+use mm_base::Kind::Memory;
+use mm_base::{Right, Why};
+use sample_domains::Answer::{Refuses, Sets};
+use sample_domains::Step::{Call, Look, Put};
+use sample_domains::{
     HEADERS, INVALID_PARAMETER, Invocation, KEPT, NOT_FOUND, OUT, OUT_DENIED, OUT_OF_RESOURCES,
     POOL, RESERVE, SECOND_OUT, SECOND_POOL, SECOND_RESERVE, SUCCESS, first_wrong,
 };
-use mm_base::Kind::Memory;
-use mm_base::{Right, Why};
 use std::test::Fail;
 
 const POOLS: &[Invocation] = &[

@@ -1,8 +1,8 @@
 //! Byte code that runs over a domain. What is expected was worked out by hand.
-use crate::making::domain_with;
 use ebc_machine::{enter, invoke};
 use mm_base::{Ended, FaultKind, NoMemory, Why};
 use mm_memory::PlainFrames;
+use sample_domains::domain_with;
 use std::alloc::Global;
 use std::test::Fail;
 use supervisor_calls::Domain;

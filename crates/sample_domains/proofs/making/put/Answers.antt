@@ -1,7 +1,7 @@
 use Rattle.std.proofs.Common.{length, arith}
 use Rattle.mm_memory.proofs.MemoryLemmas.{all_live}
-use Rattle.ebc_speed.proofs.MakingLemmas.{small_bytes, whole_after}
-use Rattle.ebc_speed.proofs.making.put.Goals as goal
+use Rattle.sample_domains.proofs.MakingLemmas.{small_bytes, whole_after}
+use Rattle.sample_domains.proofs.making.put.Goals as goal
 
 pub copy_in-requires-clause-live : goal.copy_in-requires-clause-live
 copy_in-requires-clause-live c =

@@ -1,7 +1,7 @@
 //! Accesses of an image's domain, one after another. What is expected was worked out by hand from the map and the rules of verdicts.
-use crate::making::domain_with;
 use mm_base::{Bus, CellWrite, Denial, Ended, Kind, NoMemory, Right, Target, Why};
 use mm_memory::PlainFrames;
+use sample_domains::domain_with;
 use std::alloc::Global;
 use std::test::Fail;
 use supervisor_calls::Domain;

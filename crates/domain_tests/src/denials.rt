@@ -1,13 +1,13 @@
 //! Arguments of services, and how often an invocation may be denied. What is expected was worked out by hand.
-use crate::invocations::Answer::{Refuses, Sets, Stops};
-use crate::invocations::Step::{Call, CallAt, Denied, Look, Put};
-use crate::invocations::{
-    ACCESS_DENIED, HEADERS, INVALID_PARAMETER, Invocation, KEPT, NAME_DENIED, NOT_FOUND, OUT,
-    OUT_DENIED, POOL, SUCCESS, UNSUPPORTED, first_untold, first_wrong,
-};
 use mm_base::Kind::{Io, Memory, Msr, Saved};
 use mm_base::Right;
 use mm_base::Why::{Buffer, Mmram, NoRule, Range, Rule};
+use sample_domains::Answer::{Refuses, Sets, Stops};
+use sample_domains::Step::{Call, CallAt, Denied, Look, Put};
+use sample_domains::{
+    ACCESS_DENIED, HEADERS, INVALID_PARAMETER, Invocation, KEPT, NAME_DENIED, NOT_FOUND, OUT,
+    OUT_DENIED, POOL, SUCCESS, UNSUPPORTED, first_untold, first_wrong,
+};
 use std::test::Fail;
 
 /// Where the first image's reserve ends: nothing from here on may be read.

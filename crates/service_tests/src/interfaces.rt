@@ -1,14 +1,14 @@
 //! Services of interfaces and of handlers, before and after lock. What is expected was worked out by hand.
-use crate::invocations::Answer::{Refuses, Sets};
-use crate::invocations::Step::{Call, CallAt, Look, Put, Set};
-use crate::invocations::{
+use mm_base::Kind::Memory;
+use mm_base::Right;
+use mm_base::Why::{Mmram, Range, Rule};
+use sample_domains::Answer::{Refuses, Sets};
+use sample_domains::Step::{Call, CallAt, Look, Put, Set};
+use sample_domains::{
     ACCESS_DENIED, HEADERS, INVALID_PARAMETER, Invocation, KEPT, NAME, NAME_DENIED, NOT_FOUND,
     OTHER_NAME, OUT, OUT_DENIED, OUT_OF_RESOURCES, SECOND_NAME, SECOND_OTHER_NAME, SECOND_OUT,
     SUCCESS, UNSUPPORTED, first_wrong,
 };
-use mm_base::Kind::Memory;
-use mm_base::Right;
-use mm_base::Why::{Mmram, Range, Rule};
 use std::test::Fail;
 
 /// A name that nothing has: 16 bytes of 0.

@@ -12,7 +12,7 @@ use Rattle.mm_memory.specs.Flat.{MemoryState, PlainState, joined, pages_in}
 use Rattle.mm_memory.proofs.PageLemmas.{joined-pages_in, length-overwritten, length-zeros}
 use Rattle.image_table.specs.declared.placed_image.PlacedImage.{PlacedImage}
 use Rattle.supervisor_calls.specs.Tables.{TablesState, with_image}
-use Rattle.ebc_speed.specs.TestTables.{IsWholeMemory, HaveAllPages}
+use Rattle.sample_domains.specs.TestTables.{IsWholeMemory, HaveAllPages}
 
 abbrev Small : List ℕ → Type 0
 Small = All (λ byte. byte < 256)

@@ -1,13 +1,13 @@
 //! Services of saved registers, ports and model-specific registers, and the limit of cell writes. What is expected was worked out by hand.
-use crate::invocations::Answer::{Refuses, Sets};
-use crate::invocations::Step::{Call, Denied, Look, Put, Set};
-use crate::invocations::{
-    HEADERS, INVALID_PARAMETER, Invocation, KEPT, OUT, OUT_DENIED, OUT_OF_RESOURCES, POOL,
-    SECOND_OUT, SUCCESS, first_wrong,
-};
 use mm_base::Kind::{Io, Memory, Msr, Saved};
 use mm_base::Right;
 use mm_base::Why::{Buffer, Mmram, NoRule, Quota, Range, Rule};
+use sample_domains::Answer::{Refuses, Sets};
+use sample_domains::Step::{Call, Denied, Look, Put, Set};
+use sample_domains::{
+    HEADERS, INVALID_PARAMETER, Invocation, KEPT, OUT, OUT_DENIED, OUT_OF_RESOURCES, POOL,
+    SECOND_OUT, SUCCESS, first_wrong,
+};
 use std::test::Fail;
 
 /// 2^32 + 1.

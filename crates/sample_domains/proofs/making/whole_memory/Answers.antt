@@ -1,8 +1,8 @@
 use Rattle.std.proofs.Common.{◌∙◌, ◌*◌, ap, ℕ}
 use Rattle.mm_base.specs.Frames.{zeros}
 use Rattle.mm_memory.specs.Flat.{PlainState}
-use Rattle.ebc_speed.proofs.MakingLemmas.{whole_zeros}
-use Rattle.ebc_speed.proofs.making.whole_memory.Goals as goal
+use Rattle.sample_domains.proofs.MakingLemmas.{whole_zeros}
+use Rattle.sample_domains.proofs.making.whole_memory.Goals as goal
 
 pub returns : goal.returns
 returns c =

@@ -1,6 +1,6 @@
 use Rattle.std.proofs.Common.{◌∙◌, List, Bool, false, get_or, ap, arith}
-use Rattle.ebc_speed.proofs.MakingLemmas.{all_live}
-use Rattle.ebc_speed.proofs.making.admit_at.Goals as goal
+use Rattle.sample_domains.proofs.MakingLemmas.{all_live}
+use Rattle.sample_domains.proofs.making.admit_at.Goals as goal
 
 pub admit-requires-clause-live : goal.admit-requires-clause-live
 admit-requires-clause-live c = λ page before behind.
