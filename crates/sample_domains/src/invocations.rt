@@ -1,6 +1,6 @@
 //! What the tables of invocations are made of. All invocations of a table run one after another over the same tables of a core. Each
 //! says by its steps what it is answered, and so what its records are.
-use crate::two_images::two_images;
+use crate::image_pair::two_images;
 use mm_base::{Bus, CellWrite, Denial, Ended, Kind, NoMemory, Records, Right, Saved, Served, Why};
 use mm_memory::PlainFrames;
 use std::alloc::Global;

@@ -2,10 +2,11 @@
 //! are answered, so that crates of tests and of measurements stand on it. It never runs byte code.
 #![tactic(auto)]
 
+mod image_pair;
 mod invocations;
 mod making;
-mod two_images;
 
+pub use image_pair::two_images;
 pub use invocations::{
     ACCESS_DENIED, Answer, HEADERS, INVALID_PARAMETER, Invocation, KEPT, NAME, NAME_DENIED,
     NOT_FOUND, OTHER_NAME, OUT, OUT_DENIED, OUT_OF_RESOURCES, POOL, RESERVE, SECOND_NAME,
@@ -13,4 +14,3 @@ pub use invocations::{
     first_untold, first_wrong, read, write,
 };
 pub use making::domain_with;
-pub use two_images::two_images;
