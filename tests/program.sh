@@ -120,7 +120,25 @@ booted_as driver 100=07 'waiting aaaaaaaa-0000-0000-0000-000000000001' "$nothing
 booted_as driver 364=2700 "$first fault encoding at 0000000080000100" "$nothing"
 booted_as driver 364=773170002091 "$first denied range at 0000000000000070" '  deny mem read 0000000000000070 8 range' "$nothing"
 
-usage='mm_main: usage: mm_main script FILE, mm_main check FILE, or mm_main boot FILE'
+# served FILE SCRIPT LINE..: the volume is booted, the script is served, and the report is these lines.
+served() {
+    local file=$1 script=$2
+    shift 2
+    printf '%s\n' "$@" > serve.report
+    ends 0 serve.report '' "$program" serve "$file" "$script"
+}
+
+# A booted core has no handler for the version.
+message='31564d4d01000040800000000000000108000000000000000000000000000000'
+served empty.fd version.script 'volume 00000048 ffs2 files 0' "$none" "$nothing" \
+    'entry 0 lane 0 loads 5 status 800000000000000e' \
+    "  request 0000000000000020 $message" '  nohandler 4d4d5631-0001-4000-8000-000000000001' '  reply -' \
+    "lane 0 length 0000000000000020 status 800000000000000e data $message"
+printf '%s\n' 'lanes 1 3' 'cell io 70 5a' > quiet.script
+served sample.fd quiet.script "$volume" "$file driver" "$none" "$first returned 0000000000000000" 'locked images 1 handlers 1 protocols 0' \
+    'lane 0 length 0000000000000000 status 0000000000000000 data 000000000000000000000000000000000000000000000000'
+
+usage='mm_main: usage: mm_main script FILE, mm_main check FILE, mm_main boot FILE, or mm_main serve FILE SCRIPT'
 ends 1 - "$usage" "$program"
 ends 1 - "$usage" "$program" script
 ends 1 - "$usage" "$program" script version.script more
@@ -132,7 +150,7 @@ ends 1 - "$usage" "$program" boot
 ends 1 - "$usage" "$program" boot sample.fd more
 ends 1 - "$usage" "$program" Boot sample.fd
 ends 1 - "$usage" "$program" --help
-for form in 'serve V' 'serve V S' 'live V W' 'gen 0' 'gen 10' 'convert V' 'audit V' 'verify V T'; do
+for form in serve 'serve V' 'serve V S more' 'Serve V S' 'live V W' 'gen 0' 'gen 10' 'convert V' 'audit V' 'verify V T'; do
     # shellcheck disable=SC2086
     ends 1 - "$usage" "$program" $form
 done
@@ -147,10 +165,12 @@ ends 1 - "$usage" timeout 5 "$program" script pipe more
 ends 1 - "$usage" timeout 5 "$program" script version.script pipe
 ends 1 - "$usage" timeout 5 "$program" check pipe pipe
 ends 1 - "$usage" timeout 5 "$program" boot pipe pipe
+ends 1 - "$usage" timeout 5 "$program" serve pipe
+ends 1 - "$usage" timeout 5 "$program" serve pipe pipe pipe
 ends 1 - "$usage" timeout 5 "$program" pipe
 
 # damaged BYTES PLACE WHY EDIT..: the first bytes of the sample volume, as many as are asked for, with these edits, are refused at this
-# place by both commands that read a volume.
+# place by the commands that read a volume.
 damaged() {
     local bytes=$1 place=$2 why=$3 command
     shift 3
@@ -159,6 +179,8 @@ damaged() {
     for command in check boot; do
         ends 2 - "mm_main: \"damaged.fd\", byte $place: $why" "$program" "$command" damaged.fd
     done
+    # The script isn't opened.
+    ends 2 - "mm_main: \"damaged.fd\", byte $place: $why" timeout 5 "$program" serve damaged.fd pipe
 }
 short='a volume header has at least 64 bytes, and there are fewer'
 damaged 0 0x0 "$short"
@@ -194,6 +216,12 @@ refused 'lanes 1 4\nring 0 3=1 3=1' 2 "$range"
 refused "lanes 1 4\n$(printf 'handler root 0\\n%.0s' $(seq 65))" 66 "$range"
 refused '' 1 'the script has no line that says anything'
 
+# Beside a volume a script has no handler lines.
+printf '%s\n' 'lanes 1 4' 'handler root 0' > handlers.script
+ends 3 - "mm_main: \"handlers.script\", line 2: its first word begins no line: a line is lanes, cell, poke, fill, ring, step or run" "$program" serve sample.fd handlers.script
+: > refused.script
+ends 3 - 'mm_main: "refused.script", line 1: the script has no line that says anything' "$program" serve sample.fd refused.script
+
 not_read='could not be opened or read'
 not_there='No such file or directory (os error 2)'
 ends 4 - "mm_main: \"nowhere.script\" $not_read: $not_there" "$program" script nowhere.script
@@ -208,6 +236,9 @@ for command in check boot; do
     ends 4 - "mm_main: \"folder.fd\" $not_read: Is a directory (os error 21)" "$program" "$command" folder.fd
 done
 
+ends 4 - "mm_main: \"nowhere.fd\" $not_read: $not_there" "$program" serve nowhere.fd nowhere.script
+ends 4 - "mm_main: \"nowhere.script\" $not_read: $not_there" "$program" serve sample.fd nowhere.script
+
 # A file that may not be read; root may read each.
 if [ "$(id -u)" != 0 ]; then
     cp version.script closed.script
@@ -221,10 +252,12 @@ if [ -e /dev/full ]; then
     ends 5 - 'mm_main: standard output could not be written: No space left on device (os error 28)' full "$program" script version.script
     ends 5 - 'mm_main: standard output could not be written: No space left on device (os error 28)' full "$program" check sample.fd
     ends 5 - 'mm_main: standard output could not be written: No space left on device (os error 28)' full "$program" boot sample.fd
+    ends 5 - 'mm_main: standard output could not be written: No space left on device (os error 28)' full "$program" serve sample.fd version.script
 fi
 
 head -c 4194305 /dev/zero | tr '\0' '\n' > long.script
 ends 6 - 'mm_main: "long.script" has more than 4194304 bytes' "$program" script long.script
+ends 6 - 'mm_main: "long.script" has more than 4194304 bytes' "$program" serve sample.fd long.script
 head -c $((4194304 - $(wc -c < version.script))) /dev/zero | tr '\0' '\n' | cat version.script - > whole.script
 ends 0 version.report '' "$program" script whole.script
 

@@ -1,20 +1,18 @@
 -- The start of a driver: what it leaves where its entry succeeds, and what where it doesn't. A start that fails leaves cells and records.
-use Rattle.std.specs.Prelude.{◌≡◌, ℕ, ◌+◌, ◌*◌, ◌-◌, ◌^◌, Bool, true, false, if◌then◌else◌, nat_lt, List, [], ◌∷◌, length, map, replicate, Option, Some, None, Result, Ok, Err}
+use Rattle.std.specs.Prelude.{◌≡◌, ℕ, ◌+◌, ◌*◌, ◌-◌, ◌^◌, Bool, true, false, if◌then◌else◌, nat_lt, List, [], ◌∷◌, length, map, replicate, Option, Some, None}
 use Rattle.std.specs.List.{range_with_len}
-use Rattle.ebc_machine.specs.Invocation.{entered, invoked}
-use Rattle.ebc_machine.specs.declared.regs.Regs.{Regs}
+use Rattle.domain_runs.specs.Runs.{ending}
+use Rattle.ebc_machine.specs.Invocation.{entered}
 use Rattle.image_table.specs.ImageTable.{placed, region_at}
-use Rattle.mm_base.specs.Bus.{Meaning}
 use Rattle.mm_base.specs.Numbers.{bytes_of_words, overwritten}
 use Rattle.mm_base.specs.Records.{RecordsState}
 use Rattle.mm_base.specs.Regions.{pages_filled, service_page_of, stack_of}
 use Rattle.mm_base.specs.Services.{entry_of}
-use Rattle.mm_base.specs.declared.access.Denial.{Denial}
 use Rattle.mm_base.specs.declared.guid.Guid.{Guid}
 use Rattle.mm_base.specs.declared.image.Image.{Image}
 use Rattle.mm_base.specs.declared.image.Part.{Part}
 use Rattle.mm_base.specs.declared.invocation.Ended.{Ended}
-use Rattle.mm_base.specs.declared.invocation.Ended.TheVariants.{Returned, Denied}
+use Rattle.mm_base.specs.declared.invocation.Ended.TheVariants.{Returned}
 use Rattle.mm_base.specs.declared.region.Region.{Region}
 use Rattle.page_runs.specs.Runs.{with_run}
 use Rattle.pe_loader.specs.Loading.{IsLoaded}
@@ -81,11 +79,6 @@ blank = record { denials = []; writes = [] }
 abbrev pub opening_domain : TablesState → DomainState
 opening_domain tables =
     record { tables = tables; image = last_image tables; saved = record { 0 = replicate 19 0 }; records = blank }
-
--- how an invocation ends that begins with these registers, or whose frame was denied
-abbrev pub ending : {B : Type 0} → Meaning B → ℕ → Result Regs Denial × B → Ended × B
-ending m fuel (Ok regs, bus) = ((invoked m fuel regs bus).0.ended, (invoked m fuel regs bus).1)
-ending m fuel (Err denial, bus) = (Denied denial.why denial.at, bus)
 
 -- The entry of the last image is invoked, under the policy's fuel: its arguments are the image's number + 1, the address of its service
 -- page, 0 and 0.

@@ -1,30 +1,17 @@
 //! The invocation of an image's entry.
-ghost use Rattle.std.specs.Prelude.{◌≡◌, ◌⊎◌, ◌+◌, ◌^◌, ◌<◌, ◌≤◌, length, IfOk};
-ghost use Rattle.ebc_machine.specs.Invocation.{entered, IsRefused};
-ghost use Rattle.mm_base.specs.Bus.{Answers};
+ghost use Rattle.std.specs.Prelude.{true, ◌≡◌, ◌+◌, ◌^◌, ◌<◌, ◌≤◌, length, IfOk};
+ghost use Rattle.ebc_machine.specs.Invocation.{IsRefusal};
 ghost use Rattle.mm_base.specs.Regions.{IsAddressable};
-ghost use Rattle.driver_start.specs.Starts.{blank, ending, entry_run};
+ghost use Rattle.driver_start.specs.Starts.{blank, entry_run};
 
-use ebc_machine::{enter as write_frame, invoke};
-use mm_base::{Bus, Ended, Frames, NoMemory, Records, Region, Saved};
+use domain_runs::run;
+use mm_base::{Ended, Frames, NoMemory, Records, Region, Saved};
 use supervisor_calls::{Tables, enter};
-
-/// Makes an invocation: its frame below the end of a stack, then its instructions from an address on.
-fn run<B: Bus>(bus: &mut B, stack: u64, address: u64, arguments: [u64; 4], fuel: u32) -> Ended
-    requires { 48 ≤ stack }
-    ensures { IsRefused result
-        ⊎ Answers (ending B.meaning fuel (entered B.meaning stack address arguments bus.old)) result bus.new }
-{
-    match write_frame(bus, stack, address, arguments) {
-        Ok(mut regs) => invoke(&mut regs, bus, fuel),
-        Err(denial) => Ended::Denied(denial.why, denial.at),
-    }
-}
 
 /// How an invocation ended, unless a service was refused a growth.
 fn unless_refused(ended: Ended) -> Result<Ended, NoMemory>
     ensures value { IfOk result (λ told. told ≡ ended) }
-    ensures ok { IfOk result (λ told. IsRefused ended → ⊥) }
+    ensures ok { IfOk result (λ told. IsRefusal true ended → ⊥) }
 {
     match ended {
         Ended::NoMemory(refused) => Err(refused),

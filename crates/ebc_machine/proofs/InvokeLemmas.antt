@@ -1,10 +1,11 @@
 -- What each turn of an invocation leaves to do.
 use Rattle.std.proofs.Common.{◌≡◌, ◌⊎◌, inl, inr, ℕ, zero, suc, Bool, true, false, if◌then◌else◌, Option, Some, None, refl, sym, ap, ◌∙◌, subst, arith}
-use Rattle.mm_base.specs.Bus.{Meaning, Answers, IsOutOfMemory}
+use Rattle.mm_base.specs.Bus.{Meaning, Answers, IsRefusal}
 use Rattle.mm_base.specs.declared.access.Denial.{Denial}
 use Rattle.mm_base.specs.declared.bus.Served.{Served}
 use Rattle.mm_base.specs.declared.bus.Served.TheVariants.{Status, Stop, NoMemory}
 use Rattle.mm_base.specs.declared.invocation.Ended.{Ended}
+use Rattle.mm_base.specs.declared.no_memory.NoMemory.{NoMemory as Want}
 use Rattle.mm_base.specs.declared.invocation.Ended.TheVariants as ended
 use Rattle.mm_base.specs.declared.invocation.FaultKind.{FaultKind}
 use Rattle.mm_base.specs.declared.invocation.FaultKind.TheVariants.{Alignment}
@@ -98,15 +99,25 @@ module _ {B : Type 0} (k : Option Call → Regs → B → Final × B) (next : �
       λ i. final (ended.Denied (sym same i).why (sym same i).at) regs (sym a.1 i)
   stopped denial (NoMemory refused, bus) a = let e = a.0 in cc
 
+  wanted : (want : Want) (x : Served × B)
+      → Answers x (NoMemory want) left
+      → after_service k next regs x ≡ final (ended.NoMemory want) regs left
+  wanted want (Status other, bus) a = let e = a.0 in cc
+  wanted want (Stop denial, bus) a = let e = a.0 in cc
+  wanted want (NoMemory other, bus) a =
+      let e = a.0 in
+      let same : want ≡ other = cc in
+      λ i. final (ended.NoMemory (sym same i)) regs (sym a.1 i)
+
 -- a service that answered otherwise than with out of memory answered by the bus's meaning
-pub was_answered : {B : Type 0} (x : Served × B) (answer other : Served) (left : B)
-    → IsOutOfMemory answer ⊎ Answers x answer left
+pub was_answered : {B : Type 0} (may_refuse : Bool) (x : Served × B) (answer other : Served) (left : B)
+    → IsRefusal may_refuse answer ⊎ Answers x answer left
     → answer ≡ other
-    → (IsOutOfMemory other → ⊥)
+    → (IsRefusal may_refuse other → ⊥)
     → Answers x other left
-was_answered x answer other left both is not =
+was_answered may_refuse x answer other left both is not =
     elim both [
-      | inl refused ↦ absurd (not (subst (λ (s : Served). IsOutOfMemory s) is refused))
+      | inl refused ↦ absurd (not (subst (λ (s : Served). IsRefusal may_refuse s) is refused))
       | inr a ↦ subst (λ (s : Served). Answers x s left) is a
     ]
 
@@ -218,3 +229,12 @@ module _ {B : Type 0} (m : Meaning B) where
       stop_turn denial fuel more is a e =
           gives (ended.Denied denial.why denial.at) regs left
           (sym (stopped (turns m more) next regs left denial (m.serves bus number (register_in 0 regs)) a) ∙ after_call fuel more is e)
+
+      pub want_turn : (want : Want) (fuel more : ℕ)
+          → fuel ≡ suc more
+          → Answers (m.serves bus number (register_in 0 regs)) (NoMemory want) left
+          → turns m fuel (Some (record { number = number; next = next })) regs bus ≡ whole
+          → Gives whole (ended.NoMemory want) regs left
+      want_turn want fuel more is a e =
+          gives (ended.NoMemory want) regs left
+          (sym (wanted (turns m more) next regs left want (m.serves bus number (register_in 0 regs)) a) ∙ after_call fuel more is e)

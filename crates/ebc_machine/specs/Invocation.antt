@@ -1,6 +1,6 @@
 -- A whole invocation under fuel. Each turn costs one unit, taken before it is made: an instruction is a turn, and a service that it
 -- calls is one more. Until the service is made the registers are those at its call, so fuel that is used up there names the call.
-use Rattle.std.specs.Prelude.{◌≡◌, ℕ, zero, suc, ◌+◌, ◌-◌, List, [], ◌∷◌, Option, Some, None, Result, Ok, Err, if◌then◌else◌, replicate, false}
+use Rattle.std.specs.Prelude.{◌≡◌, ℕ, zero, suc, ◌+◌, ◌-◌, List, [], ◌∷◌, Option, Some, None, Result, Ok, Err, if◌then◌else◌, replicate, Bool, true, false}
 use Rattle.mm_base.specs.Bus.{Meaning}
 use Rattle.mm_base.specs.declared.access.Denial.{Denial}
 use Rattle.mm_base.specs.declared.bus.Served.{Served}
@@ -53,10 +53,10 @@ unfoldable pub invoked : {B : Type 0} → Meaning B → ℕ → Regs → B → F
 invoked m fuel regs bus =
     if is_odd regs.ip then (misplaced regs, bus) else turns m fuel None regs bus
 
--- an invocation ended with out of memory
-abbrev pub IsRefused : Ended → Type 0
-IsRefused (ended.NoMemory refused) = Unit {0}
-IsRefused _ = ⊥
+-- an invocation ended with out of memory, over a bus whose services may be refused it
+abbrev pub IsRefusal : Bool → Ended → Type 0
+IsRefusal may_refuse (ended.NoMemory refused) = may_refuse ≡ true
+IsRefusal may_refuse _ = ⊥
 
 -- this is told of an invocation, and these registers and that bus are left
 pub record Gives {B : Type 0} (told : Final × B) (answer : Ended) (after : Regs) (left : B) : Type 0 where

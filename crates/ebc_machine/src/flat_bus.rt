@@ -141,9 +141,12 @@ fn overwrite(bytes: &mut [u8], place: usize, n: u8, value: u64)
 }
 
 impl Bus for FlatBus {
+    ghost use Rattle.std.specs.Prelude.{false};
     ghost use Rattle.ebc_machine.specs.Flat.{flat_meaning};
 
     ghost meaning = { flat_meaning };
+
+    ghost may_refuse = { false };
 
     #[inline(always)]
     fn fetch(&mut self, at: u64, n: u8) -> Result<[u8; 18], Denial> {

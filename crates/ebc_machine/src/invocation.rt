@@ -1,7 +1,7 @@
 //! A whole invocation.
 ghost use Rattle.std.specs.Prelude.{◌≡◌, ◌+◌, ◌*◌, ◌^◌, ◌≤◌, ◌⊎◌, length};
 ghost use Rattle.mm_base.specs.Bus.{Answers};
-ghost use Rattle.ebc_machine.specs.Invocation.{invoked, written, frame, opening, entered, IsRefused, Gives};
+ghost use Rattle.ebc_machine.specs.Invocation.{invoked, written, frame, opening, entered, IsRefusal, Gives};
 
 use crate::jumps::is_odd;
 use crate::regs::{REGISTERS, RESULT, Regs, STACK};
@@ -18,10 +18,11 @@ const WORDS: usize = 6;
 /// Makes an invocation from these registers on (this project's own rule): instructions of EFI Byte Code over a bus, each for one unit of fuel,
 /// and services that they call, each for one unit more, taken before the thing is done. It ends by a return, by a denied access
 /// with its reason and address, by a fault with its kind and the instruction's address, also at an odd ip, or with `Fuel` and the address of
-/// what isn't done; for a service that is its call. `NoMemory` is answered only where a service of the bus answered it. It takes no memory
+/// what isn't done; for a service that is its call. `NoMemory` is answered only where a service of the bus
+/// answered it, and over a bus whose services aren't refused memory only where the bus's meaning says so. It takes no memory
 /// of its own, and costs a bounded number of steps a unit.
 pub fn invoke<B: Bus>(regs: &mut Regs, bus: &mut B, fuel: u32) -> Ended
-    ensures { IsRefused result ⊎ Gives (invoked B.meaning fuel regs.old bus.old) result regs.new bus.new }
+    ensures { IsRefusal B.may_refuse result ⊎ Gives (invoked B.meaning fuel regs.old bus.old) result regs.new bus.new }
 {
     if is_odd(regs.ip) {
         return Ended::Fault(FaultKind::Alignment, regs.ip);

@@ -35,9 +35,12 @@ impl Model for ServingBus {
 }
 
 impl Bus for ServingBus {
+    ghost use Rattle.std.specs.Prelude.{false};
     ghost use Rattle.ebc_machine_tests.specs.Serving.{serving_meaning};
 
     ghost meaning = { serving_meaning };
+
+    ghost may_refuse = { false };
 
     fn fetch(&mut self, at: u64, n: u8) -> Result<[u8; 18], Denial> {
         self.flat.fetch(at, n)

@@ -1,5 +1,5 @@
-//! Runs of `check` and `boot` over volumes in memory, whose reports have 8,192 bytes at most. Each costs what `run` costs.
-use crate::running::{Seen, ran, sink, source};
+//! Runs of `check`, `boot` and `serve` over volumes in memory, whose reports have 8,192 bytes at most. Each costs what `run` costs.
+use crate::running::{Seen, ran, ran_over, sink, source};
 use mm_base::{Bytes, List, NoMemory};
 use mm_run::Status;
 use std::alloc::Global;
@@ -9,6 +9,9 @@ pub const CHECK: &[&str] = &["check", "volume.fd"];
 
 /// The words of a run that boots a volume.
 pub const BOOT: &[&str] = &["boot", "volume.fd"];
+
+/// The words of a run that boots a volume and serves a script.
+pub const SERVE: &[&str] = &["serve", "volume.fd", "events.script"];
 
 /// Pieces of a text, one after the other.
 fn text_of(alloc: Global, pieces: &[&[u8]]) -> Result<Bytes, NoMemory> {
@@ -88,4 +91,51 @@ pub fn is_booted_last(alloc: Global, volume: &[u8], said: &[u8]) -> Result<bool,
 /// Whether `boot` ends so on bytes, hands out no world, and writes nothing.
 pub fn is_boot_refused(alloc: Global, bytes: &[u8], status: Status) -> Result<bool, NoMemory> {
     is_refused_by(alloc, BOOT, bytes, status)
+}
+
+/// How `serve` ends on a volume and a script. The script's reads with these numbers, counted from 0, fail.
+pub fn served(
+    alloc: Global,
+    volume: &[u8],
+    script: &[u8],
+    failing: &[u32],
+) -> Result<Seen, NoMemory> {
+    let first = source(alloc, volume, &[])?;
+    let second = source(alloc, script, failing)?;
+    let out = sink(alloc, 4_096, &[])?;
+    ran_over(alloc, SERVE, first, second, out)
+}
+
+/// Whether `serve` answers 0 on a volume and a script, hands out the world that it drove, and writes just the pieces of this report.
+pub fn is_served(
+    alloc: Global,
+    volume: &[u8],
+    script: &[u8],
+    report: &[&[u8]],
+) -> Result<bool, NoMemory> {
+    let text = text_of(alloc, report)?;
+    let end = served(alloc, volume, script, &[])?;
+    Ok(end.is(Status::Done, true, text.as_slice()))
+}
+
+/// Whether `serve` ends so on a volume and a script, hands out no world, and writes nothing.
+pub fn is_not_served(
+    alloc: Global,
+    volume: &[u8],
+    script: &[u8],
+    status: Status,
+) -> Result<bool, NoMemory> {
+    let end = served(alloc, volume, script, &[])?;
+    Ok(end.is(status, false, b""))
+}
+
+/// Whether `serve` ends so on bytes that are no volume, hands out no world, writes nothing, and doesn't read a script whose first read
+/// would fail.
+pub fn is_stopped_before_script(
+    alloc: Global,
+    bytes: &[u8],
+    status: Status,
+) -> Result<bool, NoMemory> {
+    let end = served(alloc, bytes, b"ring", &[0])?;
+    Ok(end.is(status, false, b"") && end.second_faults == 0)
 }

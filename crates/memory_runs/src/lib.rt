@@ -6,6 +6,7 @@ mod checks;
 mod running;
 
 pub use checks::{
-    BOOT, CHECK, is_boot_refused, is_booted, is_booted_last, is_listed, is_listed_last, is_refused,
+    BOOT, CHECK, SERVE, is_boot_refused, is_booted, is_booted_last, is_listed, is_listed_last,
+    is_not_served, is_refused, is_served, is_stopped_before_script, served,
 };
 pub use running::{Seen, many, ran, ran_over, sink, sink_of, source};

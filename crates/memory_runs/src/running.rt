@@ -15,6 +15,8 @@ pub struct Seen {
     pub world: bool,
     /// How many reads of its first source failed.
     pub faults: u64,
+    /// How many reads of its second source failed.
+    pub second_faults: u64,
     /// What it wrote.
     pub written: Bytes,
 }
@@ -54,6 +56,7 @@ pub fn ran_over<V: Source + Drop, S: Source + Drop>(
         status,
         world,
         faults: first.faults(),
+        second_faults: second.faults(),
         written: List::from_slice(alloc, out.written())?,
     })
 }

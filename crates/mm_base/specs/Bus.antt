@@ -1,6 +1,6 @@
 -- What a bus answers and leaves. These are functions of the bus's value and of a call's arguments, so that what byte
 -- code does over a bus is a function too.
-use Rattle.std.specs.Prelude.{◌≡◌, ◌⊎◌, ℕ, List, Result}
+use Rattle.std.specs.Prelude.{◌≡◌, ◌⊎◌, ℕ, Bool, true, List, Result}
 use Rattle.mm_base.specs.declared.access.Denial.{Denial}
 use Rattle.mm_base.specs.declared.bus.Served.{Served}
 use Rattle.mm_base.specs.declared.bus.Served.TheVariants.{Status, Stop, NoMemory}
@@ -23,8 +23,11 @@ Answers told answer bus = (answer ≡ told.0) × (bus ≡ told.1)
 abbrev pub IsAccessWidth : ℕ → Type 0
 IsAccessWidth n = (n ≡ 1) ⊎ ((n ≡ 2) ⊎ ((n ≡ 4) ⊎ (n ≡ 8)))
 
+-- A service was refused memory. That happens only over a bus whose services may be refused it.
+abbrev pub IsRefusal : Bool → Served → Type 0
+IsRefusal may_refuse (NoMemory refused) = may_refuse ≡ true
+IsRefusal may_refuse _ = ⊥
+
 -- a service was answered with out of memory
 abbrev pub IsOutOfMemory : Served → Type 0
-IsOutOfMemory (Status status) = ⊥
-IsOutOfMemory (Stop denial) = ⊥
-IsOutOfMemory (NoMemory refused) = Unit {0}
+IsOutOfMemory answer = IsRefusal true answer

@@ -1,6 +1,6 @@
 //! A bus: what byte code reads, writes and asks for.
-ghost use Rattle.std.specs.Prelude.{◌≡◌, ◌≤◌, ◌<◌, ◌⊎◌, ℕ};
-ghost use Rattle.mm_base.specs.Bus.{Meaning, Answers, IsAccessWidth, IsOutOfMemory};
+ghost use Rattle.std.specs.Prelude.{◌≡◌, ◌≤◌, ◌<◌, ◌⊎◌, ℕ, Bool};
+ghost use Rattle.mm_base.specs.Bus.{Meaning, Answers, IsAccessWidth, IsRefusal};
 
 use crate::{Denial, NoMemory};
 
@@ -34,6 +34,9 @@ pub trait Bus {
     /// What each call answers and leaves.
     ghost meaning: { Meaning Self };
 
+    /// Whether a service may be refused memory.
+    ghost may_refuse: { Bool };
+
     /// Fetches `n` bytes of an instruction, which stand at the front of the answer.
     fn fetch(&mut self, at: u64, n: u8) -> Result<[u8; 18], Denial>
         requires low { 1 ≤ n }
@@ -55,8 +58,9 @@ pub trait Bus {
         ensures answer { result ≡ meaning.targets self.now at }
         ensures numbered { (number : ℕ) → result ≡ Target.Service number → number < 20 };
 
-    /// Makes a service, whose arguments stand on the stack. Out of memory alone is free.
+    /// Makes a service, whose arguments stand on the stack. Out of memory alone is free, and is answered only over a bus whose services
+    /// may be refused memory.
     fn service(&mut self, number: u8, stack: u64) -> Served
         requires { number < 20 }
-        ensures { IsOutOfMemory result ⊎ Answers (meaning.serves self.old number stack) result self.new };
+        ensures { IsRefusal may_refuse result ⊎ Answers (meaning.serves self.old number stack) result self.new };
 }

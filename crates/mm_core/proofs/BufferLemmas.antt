@@ -4,7 +4,7 @@ use Rattle.std.proofs.Math.Seq.{take-add, take-length, drop-length}
 use Rattle.std.proofs.lemmas.List.{take_min, take-append-drop}
 use Rattle.mm_base.specs.Room.{RoomState}
 use Rattle.mm_core.specs.BufferInside.{BufferState}
-use Rattle.mm_core.specs.Invoked.{no_message}
+use Rattle.mm_core.specs.Message.{no_message}
 
 -- all bytes are the reply, where none are after it
 pub all_reply : (front : ℕ) (items : List ℕ) → drop front items ≡ [] → items ≡ take front items

@@ -1,6 +1,6 @@
 -- Who is dispatched, and which handlers run.
 use Rattle.std.proofs.Common.{◌≡◌, ◌≢◌, ◌≤◌, ◌⊎◌, inl, inr, Bool, true, false, if◌then◌else◌, ◌&&◌, ◌==◌, nat_le, ℕ, List, [], ◌∷◌, ◌++◌}
-use Rattle.std.proofs.Common.{length, take, Some, None, refl, sym, ap, subst, ◌∙◌, arith}
+use Rattle.std.proofs.Common.{length, take, Option, Some, None, slice_get, refl, sym, ap, subst, ◌∙◌, arith}
 use Rattle.std.specs.List.{All}
 use Rattle.std.proofs.lemmas.Bool.Decides.{nat_tests}
 use Rattle.std.proofs.lemmas.List.{length-map}
@@ -8,6 +8,9 @@ use Rattle.std.proofs.lemmas.List.Elements.{All-nil, All-cons}
 use Rattle.mm_base.specs.declared.cells.Saved.{Saved}
 use Rattle.mm_base.specs.declared.guid.Guid.{Guid}
 use Rattle.mm_base.specs.declared.handler.Handler.{Handler}
+use Rattle.mm_base.specs.declared.handler.HandlerBody.{HandlerBody}
+use Rattle.mm_base.specs.declared.handler.HandlerBody.TheVariants.{Version, Stub, Code}
+use Rattle.image_table.specs.declared.placed_image.PlacedImage.{PlacedImage}
 use Rattle.mm_base.specs.declared.invocation.Invocation.{Invocation}
 use Rattle.mm_base.specs.declared.entry.Request.{Request}
 use Rattle.mm_base.specs.declared.entry.Shape.{Shape}
@@ -18,7 +21,8 @@ use Rattle.mm_core.specs.CommunicateHeader.{header_length, is_lawful, header_of}
 use Rattle.mm_core.specs.CoreState.{Site}
 use Rattle.mm_core.specs.EntryStep.{has_none, shape_of, message_of, chain_runs, entry_step}
 use Rattle.mm_core.specs.HandlerChain.{runs_of, through_stop, invocations_of, live_after}
-use Rattle.mm_core.specs.Invoked.{Message, Invoked, no_message, invoked, status_of}
+use Rattle.mm_core.specs.Invoked.{by_body, code_invoked, invoked}
+use Rattle.mm_core.specs.Message.{Message, Invoked, no_message, status_of}
 use Rattle.mm_core.specs.Laws.{IsAddressed, DispatchedExactly, RootAlwaysRuns, ChainRunsInOrder, numbers_of, invoked_numbers}
 use Rattle.mm_core.specs.Laws.{Stops, GoesOn, RunInOrder}
 use Rattle.mm_core.specs.MachineLemmas.{is_addressed, shape_by, length-runs_of}
@@ -53,6 +57,24 @@ dispatched_exactly site live request guid = (is_addressed site request guid, dis
 
 -- ---- which handlers run
 
+-- an invocation is told by its handler's number
+number_of_code : (site : Site) (saved : Saved) (handler : Handler) (image address : ℕ) (found : Option PlacedImage) (message : Message) (live : Live)
+    → (code_invoked site saved handler image address found message live).invocation.handler ≡ handler.number
+number_of_code site saved handler image address None message live = refl
+number_of_code site saved handler image address (Some placed) message live = refl
+
+number_of_body : (site : Site) (saved : Saved) (handler : Handler) (body : HandlerBody) (message : Message) (live : Live)
+    → (by_body site saved handler body message live).invocation.handler ≡ handler.number
+number_of_body site saved handler Version message live = refl
+number_of_body site saved handler (Stub status) message live = refl
+number_of_body site saved handler (Code image address) message live =
+    number_of_code site saved handler image address (slice_get site.supervised.images image) message live
+
+number_of_run : (site : Site) (saved : Saved) (handler : Handler) (message : Message) (live : Live)
+    → (invoked site saved handler message live).invocation.handler ≡ handler.number
+unfolding invoked
+number_of_run site saved handler message live = number_of_body site saved handler handler.body message live
+
 -- each handler runs, in order
 module _ (root : Bool) (site : Site) (saved : Saved) where
   numbers_of_runs : (handlers : List Handler) (message : Message) (live : Live)
@@ -60,7 +82,9 @@ module _ (root : Bool) (site : Site) (saved : Saved) where
   numbers_of_runs [] message live = refl
   numbers_of_runs (handler ∷ handlers) message live =
       let run = invoked site saved handler (if root then no_message else message) live in
-      ap (λ (ns : List ℕ). handler.number ∷ ns) (numbers_of_runs handlers run.message run.live)
+      let number : run.invocation.handler ≡ handler.number =
+      number_of_run site saved handler (if root then no_message else message) live in
+      λ i. number i ∷ numbers_of_runs handlers run.message run.live i
 
 pub root_always_runs : RootAlwaysRuns
 unfolding entry_step

@@ -1,6 +1,8 @@
 -- The parts of an entry step, and what the code makes of them.
 use Rattle.std.proofs.Common.{◌≡◌, ℕ, ◌+◌, ◌≤◌, min, Bool, true, false, if◌then◌else◌, ◌==◌, List, [], ◌∷◌, ◌++◌, length, take}
-use Rattle.std.proofs.Common.{Some, None, refl, sym, ap, ◌∙◌, arith}
+use Rattle.std.proofs.Common.{Some, None, cond, refl, sym, ap, ◌∙◌, arith}
+use Rattle.std.specs.Option.{option_eq}
+use Rattle.mm_base.specs.Guid.{same_guid}
 use Rattle.mm_base.specs.Statuses.{success, invalid_parameter, not_found}
 use Rattle.mm_base.specs.declared.cells.Saved.{Saved}
 use Rattle.mm_base.specs.declared.handler.Handler.{Handler}
@@ -11,19 +13,19 @@ use Rattle.mm_base.specs.declared.entry.Shape.TheVariants.{BadLength, BadHeader,
 use Rattle.mm_base.specs.declared.guid.Guid.{Guid}
 use Rattle.mmi_registry.proofs.ChainLemmas.{guid_comes_to_first}
 use Rattle.mmi_registry.specs.ChainLaws.{result_from}
-use Rattle.mmi_registry.specs.ChainRule.{stops}
 use Rattle.mmi_registry.specs.Handlers.{chain_of}
 use Rattle.mm_core.proofs.BufferLemmas.{reply_alone}
-use Rattle.mm_core.proofs.ChainRunLemmas.{answer_of-no_message}
+use Rattle.mm_core.proofs.ChainRunLemmas.{has_no_guid, no_message_left}
 use Rattle.mm_core.specs.BufferInside.{BufferState}
 use Rattle.mm_core.specs.ChainInside.{managed}
 use Rattle.mm_core.specs.CommunicateHeader.{header_of, header_bytes, message_bytes}
 use Rattle.mm_core.specs.CoreState.{CoreState, Site}
 use Rattle.mm_core.specs.EntryStep.{message_of, chain_runs, root_runs, shape_of, outcome_of, entry_step, core_step}
 use Rattle.mm_core.specs.HandlerChain.{runs_of, through_stop, invocations_of, statuses_of, message_after, live_after}
-use Rattle.mm_core.specs.Invoked.{Message, Invoked, no_message, answer_of, invoked, status_of}
+use Rattle.mm_core.specs.Invoked.{invoked}
+use Rattle.mm_core.specs.Message.{Message, Invoked, no_message}
 use Rattle.mm_core.specs.MachineLemmas.{length-both_chains, length-runs_of, chain_and_root}
-use Rattle.mm_core.specs.StepInside.{chain_in, status_in, reply_in}
+use Rattle.mm_core.specs.StepInside.{after_chain, chain_in, status_in, reply_in}
 use Rattle.supervisor_calls.specs.Tables.{Live}
 
 -- a GUID's chain has at most as many handlers as there are
@@ -44,6 +46,13 @@ module _ (core : CoreState) (request : Request) (guid : Guid) where
   runs_are m same =
       let handlers = chain_of (Some guid) core.site.handlers in
       ap (λ (m' : Message). through_stop false (runs_of false core.site request.saved handlers m' core.live)) same
+
+  -- the core after it
+  pub dispatched_core : (left : CoreState) (m : Message) → m ≡ message_of request
+      → left ≡ record core { live = live_after core.live (managed core (Some guid) request.saved m) }
+      → left ≡ after_chain core request (Dispatched guid)
+  unfolding after_chain
+  dispatched_core left m same is = is ∙ ap (λ (runs : List Invoked). record core { live = live_after core.live runs }) (runs_are m same)
 
   -- its status, by what its chain comes to
   pub status_is : (status comes_to : ℕ) → status ≡ (if comes_to == success then success else not_found)
@@ -113,6 +122,10 @@ module _ (core : CoreState) (request : Request) where
   refused_buffer shape start h empty =
       ap (λ (f : List ℕ). record start { front = f }) (ap (λ b. b.front) empty ∙ sym (refused_reply shape h))
 
+  pub refused_core : (shape : Shape) → is_refused shape ≡ true → core ≡ after_chain core request shape
+  unfolding after_chain
+  refused_core shape h = ap (λ (runs : List Invoked). record core { live = live_after core.live runs }) (sym (refused_chain shape h))
+
   pub bad_length_status : invalid_parameter ≡ status_in core request BadLength
   unfolding status_in
   bad_length_status = refl
@@ -127,42 +140,25 @@ module _ (core : CoreState) (request : Request) where
 
 -- ---- what a step leaves
 
-module _ (root : Bool) (site : Site) (saved : Saved) where
-  -- no run changes what it may change: built-in handlers touch nothing but the message
-  live_stays : (handlers : List Handler) (m : Message) (live : Live) → live_after live (runs_of root site saved handlers m live) ≡ live
-  live_stays [] m live = refl
-  live_stays (handler ∷ handlers) m live =
-      let run = invoked site saved handler (if root then no_message else m) live in
-      live_stays handlers run.message live
-
-  live_stays-through : (handlers : List Handler) (m : Message) (live : Live)
-      → live_after live (through_stop root (runs_of root site saved handlers m live)) ≡ live
-  live_stays-through [] m live = refl
-  live_stays-through (handler ∷ handlers) m live =
-      let run = invoked site saved handler (if root then no_message else m) live in
-      let rest = through_stop root (runs_of root site saved handlers run.message live) in
-      elim (stops root (status_of run.invocation.ended)) as (λ b. live_after live (run ∷ (if b then [] else rest)) ≡ live) [
-        | true ↦ refl
-        | false ↦ live_stays-through handlers run.message live
-      ]
-
-chain_live : (site : Site) (request : Request) (live : Live) (shape : Shape) → live_after live (chain_runs site request live shape) ≡ live
-chain_live site request live BadLength = refl
-chain_live site request live BadHeader = refl
-chain_live site request live (NoHandler guid) = refl
-chain_live site request live (Dispatched guid) =
-    live_stays-through false site request.saved (chain_of (Some guid) site.handlers) (message_of request) live
-
 -- the root chain never stops
 through_root : (runs : List Invoked) → through_stop true runs ≡ runs
 through_root [] = refl
 through_root (run ∷ runs) = ap (λ (rs : List Invoked). run ∷ rs) (through_root runs)
 
 root_message : (site : Site) (saved : Saved) (handlers : List Handler) (m : Message) (live : Live) → m ≡ no_message
-    → message_after m (runs_of true site saved handlers m live) ≡ no_message
+    → message_after m (runs_of true site saved (chain_of None handlers) m live) ≡ no_message
 root_message site saved [] m live none = none
 root_message site saved (handler ∷ handlers) m live none =
-    root_message site saved handlers (answer_of handler.body no_message).message live (answer_of-no_message handler.body)
+    by_own (λ left after none. root_message site saved handlers left after none) (option_eq same_guid handler.guid None) refl
+  where
+    by_own : ((left : Message) (after : Live) → left ≡ no_message
+        → message_after left (runs_of true site saved (chain_of None handlers) left after) ≡ no_message)
+        → (own : Bool) → option_eq same_guid handler.guid None ≡ own
+        → message_after m (runs_of true site saved (cond own (handler ∷ chain_of None handlers) (chain_of None handlers)) m live) ≡ no_message
+    by_own rest true own =
+        let run = invoked site saved handler no_message live in
+        rest run.message run.live (no_message_left site saved handler live (has_no_guid handler.guid own))
+    by_own rest false own = rest m live none
 
 -- the root handlers leave no message
 pub none_left : (core : CoreState) (saved : Saved) (start after : BufferState) → start.message ≡ no_message
@@ -172,7 +168,7 @@ none_left core saved start after none a =
     let handlers = chain_of None core.site.handlers in
     ap (λ b. b.message) a
     ∙ ap (message_after start.message) (through_root (runs_of true core.site saved handlers start.message core.live))
-    ∙ root_message core.site saved handlers start.message core.live none
+    ∙ root_message core.site saved core.site.handlers start.message core.live none
 
 module _ (core : CoreState) (request : Request) where
   -- after a request's chain there is place for the root chain
@@ -187,30 +183,41 @@ module _ (core : CoreState) (request : Request) where
         length-runs_of true core.site request.saved handlers no_message core.live,
       )
 
+  -- the chain leaves what stays
+  pub same_site : (shape : Shape) → (after_chain core request shape).site ≡ core.site
+  unfolding after_chain
+  same_site shape = refl
+
   -- the outcome of a request, by its parts
   pub outcome_is : (outcome : Outcome) → outcome.shape ≡ shape_of core.site request
       → outcome.status ≡ status_in core request outcome.shape → outcome.reply ≡ reply_in core request outcome.shape
       → outcome.chain ≡ invocations_of (chain_in core request outcome.shape)
-      → outcome.root ≡ invocations_of (managed core None request.saved no_message)
+      → outcome.root ≡ invocations_of (managed (after_chain core request outcome.shape) None request.saved no_message)
       → outcome ≡ (entry_step core.site core.live request).0
-  unfolding entry_step status_in reply_in chain_in managed
+  unfolding entry_step status_in reply_in chain_in managed after_chain
   outcome_is outcome shape status reply chain root =
       let Runs : Shape → List Invoked = λ s. chain_runs core.site request core.live s in
-      let roots : outcome.root ≡ invocations_of (root_runs core.site request core.live) = root ∙ ap invocations_of (through_root _) in
-      let now = shape_of core.site request in
+      let Roots : Shape → List Invoked = λ s. root_runs core.site request (live_after core.live (Runs s)) in
+      let roots : outcome.root ≡ invocations_of (Roots outcome.shape) = root ∙ ap invocations_of (through_root _) in
       (λ i. record { shape = outcome.shape; status = status i; reply = reply i; chain = chain i; root = roots i })
-      ∙ ap (λ (s : Shape). outcome_of request s (Runs s) (root_runs core.site request core.live)) shape
-      ∙ ap (λ (l : Live). outcome_of request now (Runs now) (root_runs core.site request l))
-      (sym (chain_live core.site request core.live now))
+      ∙ ap (λ (s : Shape). outcome_of request s (Runs s) (Roots s)) shape
 
-  -- the step leaves the core as it was
-  pub core_step-stays : core ≡ (core_step core request).1
-  unfolding core_step entry_step
-  core_step-stays =
-      let shape = shape_of core.site request in
-      let between = live_after core.live (chain_runs core.site request core.live shape) in
-      let roots = live_stays true core.site request.saved (chain_of None core.site.handlers) no_message between in
-      ap (λ (l : Live). record { site = core.site; live = l }) (sym (roots ∙ chain_live core.site request core.live shape))
+  -- the core after both chains
+  pub core_is : (between left : CoreState) (shape : Shape) → shape ≡ shape_of core.site request → between ≡ after_chain core request shape
+      → left ≡ record between { live = live_after between.live (managed between None request.saved no_message) }
+      → left ≡ record core { live = (entry_step core.site core.live request).1 }
+  unfolding entry_step chain_in managed after_chain
+  core_is between left shape shape_is b l =
+      let mid : Live = live_after core.live (chain_runs core.site request core.live (shape_of core.site request)) in
+      l
+      ∙ ap (λ (c : CoreState). record c { live = live_after c.live (managed c None request.saved no_message) })
+      (b ∙ ap (after_chain core request) shape_is)
+      ∙ ap (λ (runs : List Invoked). record core { live = live_after mid runs }) (through_root (root_runs core.site request mid))
+
+  -- the core after the step is that of the definition
+  pub core_step-left : record core { live = (entry_step core.site core.live request).1 } ≡ (core_step core request).1
+  unfolding core_step
+  core_step-left = refl
 
   -- the outcome of the step is that of the entry step
   pub core_step-outcome : (entry_step core.site core.live request).0 ≡ (core_step core request).0

@@ -2,7 +2,7 @@
 --
 -- What contracts see of the buffer of an entry.
 use Rattle.std.specs.Prelude.{ℕ, List}
-use Rattle.mm_core.specs.Invoked.{Message}
+use Rattle.mm_core.specs.Message.{Message}
 
 -- the reply so far, the message after it, and how many bytes there is place for in all
 pub record BufferState : Type 0 where

@@ -7,7 +7,7 @@ use Rattle.mm_base.specs.declared.guid.Guid.{Guid}
 use Rattle.mmi_registry.specs.Handlers.{chain_of}
 use Rattle.mm_core.specs.CoreState.{CoreState}
 use Rattle.mm_core.specs.HandlerChain.{runs_of, through_stop}
-use Rattle.mm_core.specs.Invoked.{Message, Invoked, no_message}
+use Rattle.mm_core.specs.Message.{Message, Invoked, no_message}
 
 -- whether the root handlers are called: no GUID is given
 abbrev pub is_root : Option Guid → Bool

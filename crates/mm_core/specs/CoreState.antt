@@ -38,6 +38,17 @@ without_images handlers platform = record {
   live = record { memory = []; platform = platform; pools = []; reserves = [] };
 }
 
+-- the tables of a core: they are locked
+abbrev pub tables_of : Site → Live → TablesState
+tables_of site live = record {
+  site = site.supervised;
+  live = live;
+  registry = record { handlers = site.handlers; next = site.next_number; frozen = true };
+  protocols = site.interfaces;
+  locked = true;
+  pages = site.pages;
+}
+
 -- the core that has these tables
 abbrev pub core_of_tables : TablesState → CoreState
 core_of_tables tables = record {

@@ -11,7 +11,7 @@ use Rattle.mm_base.specs.declared.handler.Handler.{Handler}
 use Rattle.mmi_registry.specs.Handlers.{chain_of}
 use Rattle.mm_core.specs.CommunicateHeader.{is_lawful, header_of, header_bytes, message_bytes}
 use Rattle.mm_core.specs.CoreState.{Site, CoreState}
-use Rattle.mm_core.specs.Invoked.{Message, Invoked, no_message}
+use Rattle.mm_core.specs.Message.{Message, Invoked, no_message}
 use Rattle.mm_core.specs.HandlerChain.{runs_of, through_stop, invocations_of, result_of, message_after, live_after}
 use Rattle.supervisor_calls.specs.Tables.{Live}
 

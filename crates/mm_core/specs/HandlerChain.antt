@@ -7,7 +7,8 @@ use Rattle.mm_base.specs.declared.invocation.Invocation.{Invocation}
 use Rattle.mmi_registry.specs.ChainRule.{is_final, stops}
 use Rattle.mmi_registry.specs.ChainLaws.{best_of}
 use Rattle.mm_core.specs.CoreState.{Site}
-use Rattle.mm_core.specs.Invoked.{Message, Invoked, no_message, invoked, status_of}
+use Rattle.mm_core.specs.Invoked.{invoked}
+use Rattle.mm_core.specs.Message.{Message, Invoked, no_message, status_of}
 use Rattle.supervisor_calls.specs.Tables.{Live}
 
 -- What handlers leave, one after another, if none stops the chain. A root handler is given no message, and none of

@@ -11,7 +11,7 @@ use Rattle.mmi_registry.specs.Handlers.{chain_of}
 use Rattle.mm_core.specs.CommunicateHeader.{header_length, header_of}
 use Rattle.mm_core.specs.CoreState.{Site}
 use Rattle.mm_core.specs.EntryStep.{entry_step}
-use Rattle.mm_core.specs.Invoked.{status_of}
+use Rattle.mm_core.specs.Message.{status_of}
 use Rattle.supervisor_calls.specs.Tables.{Live}
 
 -- A request is addressed to a GUID: it has at least a header and as many bytes as its length word says, the message

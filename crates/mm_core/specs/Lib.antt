@@ -1,6 +1,8 @@
 pub mod Boots
 pub mod BufferInside
 pub mod ChainInside
+pub mod CodeInside
+pub mod CodeRun
 pub mod CommunicateHeader
 pub mod CoreState
 pub mod EntryStep
@@ -8,6 +10,7 @@ pub mod HandlerChain
 pub mod Invoked
 pub mod Laws
 pub mod MachineLemmas
+pub mod Message
 pub mod PartsInside
 pub mod Scripted
 pub mod StepInside

@@ -1,16 +1,24 @@
 -- What bounds the outcomes of the entry step, whatever the handlers are: the lemmas of a core's two laws as a machine.
 use Rattle.std.proofs.Common.{◌≡◌, ◌≢◌, ◌+◌, ◌-◌, ◌≤◌, Bool, true, false, cond, if◌then◌else◌, not, min}
-use Rattle.std.proofs.Common.{List, [], ◌∷◌, ◌++◌, length, take, Option, Some, None, refl, subst, arith, length-append}
+use Rattle.std.proofs.Common.{List, [], ◌∷◌, ◌++◌, length, take, Option, Some, None, ℕ, slice_get, refl, subst, arith, length-append}
 use Rattle.std.specs.Option.{option_eq}
 use Rattle.std.specs.List.{All}
 use Rattle.std.proofs.lemmas.Bool.{and_parts, leb-true, eqb-true}
 use Rattle.std.proofs.lemmas.List.{length-take, length-map}
 use Rattle.std.proofs.lemmas.List.Elements.{All-nil, All-cons, All-head, All-tail}
+use Rattle.domain_runs.specs.Laws.{AreFew as AreFewRecords}
+use Rattle.domain_runs.proofs.CallLemmas.{records_stay_few}
+use Rattle.domain_runs.proofs.RunLemmas.{run_keeps}
+use Rattle.image_table.specs.declared.placed_image.PlacedImage.{PlacedImage}
 use Rattle.mm_base.specs.Machine.{HasFewRecords, IsWithin}
+use Rattle.mm_base.specs.Regions.{stack_of}
 use Rattle.mm_base.specs.Guid.{same_guid}
 use Rattle.mm_base.specs.declared.cells.Saved.{Saved}
 use Rattle.mm_base.specs.declared.guid.Guid.{Guid}
 use Rattle.mm_base.specs.declared.handler.Handler.{Handler}
+use Rattle.mm_base.specs.declared.handler.HandlerBody.{HandlerBody}
+use Rattle.mm_base.specs.declared.handler.HandlerBody.TheVariants.{Version, Stub, Code}
+use Rattle.mm_base.specs.declared.region.Region.{Region}
 use Rattle.mm_base.specs.declared.entry.Request.{Request}
 use Rattle.mm_base.specs.declared.entry.Shape.{Shape}
 use Rattle.mm_base.specs.declared.entry.Shape.TheVariants.{BadLength, BadHeader, NoHandler, Dispatched}
@@ -22,9 +30,43 @@ use Rattle.mm_core.specs.CoreState.{Site, CoreState}
 use Rattle.mm_core.specs.EntryStep.{has_none, shape_of, message_of, chain_runs, root_runs, reply_as, outcome_of}
 use Rattle.mm_core.specs.EntryStep.{entry_step, core_step}
 use Rattle.mm_core.specs.HandlerChain.{runs_of, through_stop, invocations_of, message_after, live_after}
-use Rattle.mm_core.specs.Invoked.{Message, Invoked, no_message, invoked, status_of}
+use Rattle.mm_core.specs.CodeRun.{addresses, code_run, opening_domain}
+use Rattle.mm_core.specs.Invoked.{by_body, code_invoked, invoked}
+use Rattle.mm_core.specs.Message.{Message, Invoked, no_message, status_of}
 use Rattle.mm_core.specs.Laws.{IsAddressed}
+use Rattle.supervisor_calls.specs.Services.{domain_meaning}
 use Rattle.supervisor_calls.specs.Tables.{Live}
+
+-- ---- one run
+
+-- code of an image makes at most as many records as there may be
+few_code : (site : Site) (saved : Saved) (handler : Handler) (image address : ℕ) (region : Region) (message : Message) (live : Live)
+    → AreFewRecords (code_run site saved handler image address region message live).1.records
+unfolding code_run
+few_code site saved handler image address region message live =
+    let stack = stack_of region in
+    run_keeps (λ domain. AreFewRecords domain.records) domain_meaning records_stay_few site.supervised.policy.fuel
+    (stack.base + stack.length) address ((handler.number + 1) ∷ 0 ∷ addresses handler.guid region)
+    (opening_domain site saved image region message live) (record { denials = omega arith; writes = omega arith })
+
+few_code_invoked : (site : Site) (saved : Saved) (handler : Handler) (image address : ℕ) (placed : Option PlacedImage) (message : Message) (live : Live)
+    → HasFewRecords (code_invoked site saved handler image address placed message live).invocation
+few_code_invoked site saved handler image address None message live = record { denials = omega arith; writes = omega arith }
+few_code_invoked site saved handler image address (Some placed) message live =
+    let few = few_code site saved handler image address placed.region message live in
+    record { denials = few.denials; writes = few.writes }
+
+few_by_body : (site : Site) (saved : Saved) (handler : Handler) (body : HandlerBody) (message : Message) (live : Live)
+    → HasFewRecords (by_body site saved handler body message live).invocation
+few_by_body site saved handler Version message live = record { denials = omega arith; writes = omega arith }
+few_by_body site saved handler (Stub status) message live = record { denials = omega arith; writes = omega arith }
+few_by_body site saved handler (Code image address) message live =
+    few_code_invoked site saved handler image address (slice_get site.supervised.images image) message live
+
+few_invoked : (site : Site) (saved : Saved) (handler : Handler) (message : Message) (live : Live)
+    → HasFewRecords (invoked site saved handler message live).invocation
+unfolding invoked
+few_invoked site saved handler message live = few_by_body site saved handler handler.body message live
 
 -- ---- runs
 
@@ -63,15 +105,14 @@ module _ (root : Bool) (site : Site) (saved : Saved) where
       let run = invoked site saved handler (if root then no_message else message) live in
       omega (arith, length-runs_of handlers run.message run.live)
 
-  -- no handler makes a record
+  -- no handler makes more records than there may be
   few-runs_of : (handlers : List Handler) (message : Message) (live : Live)
       → AreFew (runs_of root site saved handlers message live)
   few-runs_of [] message live = All-nil HasFewRecords
   few-runs_of (handler ∷ handlers) message live =
       let run = invoked site saved handler (if root then no_message else message) live in
-      let none : HasFewRecords run.invocation = record { denials = omega arith; writes = omega arith } in
       All-cons HasFewRecords run.invocation (invocations_of (runs_of root site saved handlers run.message run.live))
-      none (few-runs_of handlers run.message run.live)
+      (few_invoked site saved handler (if root then no_message else message) live) (few-runs_of handlers run.message run.live)
 
 -- ---- the two chains
 

@@ -1,6 +1,7 @@
 //! The buffer of an entry: the reply so far, and after it the message that handlers work on.
 ghost use Rattle.std.specs.Prelude.{◌≡◌, ◌+◌, ◌≤◌, [], ◌++◌, min, length, take, drop};
-ghost use Rattle.mm_core.specs.Invoked.{no_message};
+ghost use Rattle.mm_base.specs.Numbers.{overwritten};
+ghost use Rattle.mm_core.specs.Message.{no_message};
 
 use mm_base::{List, Room};
 use std::marker::Model;
@@ -56,6 +57,40 @@ impl Buffer {
         self.bytes.extend(message);
         self.front = header.len();
         self.size = message.len() as u64;
+    }
+
+    /// The bytes of the message, whatever its size.
+    pub(crate) fn message(&self) -> &[u8]
+        ensures { result.now ≡ self.now.message.buffer }
+    {
+        let (_, message) = self.bytes.as_slice().split_at(self.front);
+        message
+    }
+
+    /// The size of the message.
+    pub(crate) fn size(&self) -> u64
+        ensures { result ≡ self.now.message.size }
+    {
+        self.size
+    }
+
+    /// Makes this the size of the message.
+    pub(crate) fn resize(&mut self, size: u64)
+        ensures { self.new ≡ record self.old { message = record self.old.message { size = size } } }
+    {
+        self.size = size;
+    }
+
+    /// Writes these bytes over those of the message from a place on.
+    pub(crate) fn put(&mut self, at: usize, piece: &[u8])
+        requires { at + length piece.now ≤ length self.old.message.buffer }
+        ensures { self.new ≡ record self.old {
+          message = record self.old.message { buffer = overwritten self.old.message.buffer at piece.now };
+        } }
+    {
+        let after = self.message_bytes() - at;
+        let start = self.bytes.len() - after;
+        self.bytes.overwrite(start, piece);
     }
 
     /// How many bytes there are for the message, whatever its size.

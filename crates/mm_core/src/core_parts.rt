@@ -9,6 +9,6 @@ use supervisor_calls::Tables;
 pub(crate) enum CoreParts {
     /// The handlers of a script, and the cells.
     Scripted(Registry, Platform),
-    /// The tables after a boot.
-    Booted(Tables<PlainFrames>),
+    /// The tables after a boot. They are away only while a handler runs.
+    Booted(Option<Tables<PlainFrames>>),
 }

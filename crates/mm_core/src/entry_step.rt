@@ -4,9 +4,9 @@ ghost use Rattle.mm_base.specs.Statuses.{success, not_found};
 ghost use Rattle.mm_base.specs.declared.entry.Shape.TheVariants.{Dispatched};
 ghost use Rattle.mm_core.specs.EntryStep.{shape_of, entry_step};
 ghost use Rattle.mm_core.specs.HandlerChain.{invocations_of};
-ghost use Rattle.mm_core.specs.Invoked.{no_message};
+ghost use Rattle.mm_core.specs.Message.{no_message};
 ghost use Rattle.mm_core.specs.Laws.{IsAddressed};
-ghost use Rattle.mm_core.specs.StepInside.{chain_in, status_in, reply_in};
+ghost use Rattle.mm_core.specs.StepInside.{after_chain, chain_in, status_in, reply_in};
 
 use crate::buffer::Buffer;
 use crate::chain::manage;
@@ -38,15 +38,16 @@ fn classify(core: &Core, request: &Request) -> Shape
 
 /// The outcome of a request, in these rooms. It takes no memory, and costs one step for each handler of the core and
 /// each byte of the request, and what the handlers do.
-pub(crate) fn outcome_of(core: &Core, request: &Request, rooms: OutcomeRooms) -> Outcome
+pub(crate) fn outcome_of(core: &mut Core, request: &Request, rooms: OutcomeRooms) -> Outcome
     requires reply { rooms.reply.items ≡ [] }
     requires chain { rooms.chain.items ≡ [] }
     requires root { rooms.root.items ≡ [] }
     requires reply_room { length request.now.bytes ≤ rooms.reply.room }
-    requires chain_room { length core.now.site.handlers ≤ rooms.chain.room }
-    requires root_room { length core.now.site.handlers ≤ rooms.root.room }
-    requires blanks { length core.now.site.handlers ≤ vec_len rooms.blanks }
-    ensures { result ≡ (entry_step core.now.site core.now.live request.now).0 }
+    requires chain_room { length core.old.site.handlers ≤ rooms.chain.room }
+    requires root_room { length core.old.site.handlers ≤ rooms.root.room }
+    requires blanks { length core.old.site.handlers ≤ vec_len rooms.blanks }
+    ensures outcome { result ≡ (entry_step core.old.site core.old.live request.now).0 }
+    ensures core { core.new ≡ record core.old { live = (entry_step core.old.site core.old.live request.now).1 } }
 {
     let OutcomeRooms {
         reply,
@@ -76,23 +77,24 @@ pub(crate) fn outcome_of(core: &Core, request: &Request, rooms: OutcomeRooms) ->
 
 /// Answers a request by what it is taken for, and returns the status of the entry.
 fn answer(
-    core: &Core,
+    core: &mut Core,
     request: &Request,
     shape: Shape,
     buffer: &mut Buffer,
     chain: &mut Room<Invocation>,
     blanks: &mut Vec<Records>,
 ) -> u64
-    requires shape { shape_of core.now.site request.now ≡ shape }
+    requires shape { shape_of core.old.site request.now ≡ shape }
     requires buffer { buffer.old ≡ record { front = []; message = no_message; room = buffer.old.room } }
     requires reply_room { length request.now.bytes ≤ buffer.old.room }
     requires chain { chain.old.items ≡ [] }
-    requires chain_room { length core.now.site.handlers ≤ chain.old.room }
-    requires blanks { length core.now.site.handlers ≤ vec_len blanks.old }
-    ensures status { result ≡ status_in core.now request.now shape }
-    ensures reply { buffer.new ≡ record buffer.old { front = reply_in core.now request.now shape } }
-    ensures chain { chain.new.items ≡ invocations_of (chain_in core.now request.now shape) }
-    ensures blanks { vec_len blanks.new + length (chain_in core.now request.now shape) ≡ vec_len blanks.old }
+    requires chain_room { length core.old.site.handlers ≤ chain.old.room }
+    requires blanks { length core.old.site.handlers ≤ vec_len blanks.old }
+    ensures status { result ≡ status_in core.old request.now shape }
+    ensures reply { buffer.new ≡ record buffer.old { front = reply_in core.old request.now shape } }
+    ensures chain { chain.new.items ≡ invocations_of (chain_in core.old request.now shape) }
+    ensures core { core.new ≡ after_chain core.old request.now shape }
+    ensures blanks { vec_len blanks.new + length (chain_in core.old request.now shape) ≡ vec_len blanks.old }
 {
     match shape {
         Shape::BadLength | Shape::BadHeader => INVALID_PARAMETER,
@@ -103,23 +105,24 @@ fn answer(
 
 /// Answers a request by the handlers of its GUID, and returns the status of the entry.
 fn dispatch(
-    core: &Core,
+    core: &mut Core,
     request: &Request,
     guid: Guid,
     buffer: &mut Buffer,
     chain: &mut Room<Invocation>,
     blanks: &mut Vec<Records>,
 ) -> u64
-    requires addressed { IsAddressed core.now.site request.now guid }
+    requires addressed { IsAddressed core.old.site request.now guid }
     requires buffer { buffer.old ≡ record { front = []; message = no_message; room = buffer.old.room } }
     requires reply_room { length request.now.bytes ≤ buffer.old.room }
     requires chain { chain.old.items ≡ [] }
-    requires chain_room { length core.now.site.handlers ≤ chain.old.room }
-    requires blanks { length core.now.site.handlers ≤ vec_len blanks.old }
-    ensures status { result ≡ status_in core.now request.now (Dispatched guid) }
-    ensures reply { buffer.new ≡ record buffer.old { front = reply_in core.now request.now (Dispatched guid) } }
-    ensures chain { chain.new.items ≡ invocations_of (chain_in core.now request.now (Dispatched guid)) }
-    ensures blanks { let runs = chain_in core.now request.now (Dispatched guid) in
+    requires chain_room { length core.old.site.handlers ≤ chain.old.room }
+    requires blanks { length core.old.site.handlers ≤ vec_len blanks.old }
+    ensures status { result ≡ status_in core.old request.now (Dispatched guid) }
+    ensures reply { buffer.new ≡ record buffer.old { front = reply_in core.old request.now (Dispatched guid) } }
+    ensures chain { chain.new.items ≡ invocations_of (chain_in core.old request.now (Dispatched guid)) }
+    ensures core { core.new ≡ after_chain core.old request.now (Dispatched guid) }
+    ensures blanks { let runs = chain_in core.old request.now (Dispatched guid) in
         vec_len blanks.new + length runs ≡ vec_len blanks.old }
 {
     let (header, message) = split_request(request);

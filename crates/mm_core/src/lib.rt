@@ -8,12 +8,14 @@ mod booted;
 mod booting;
 mod buffer;
 mod chain;
+mod code;
 mod core_parts;
 mod entry_step;
 mod header;
 mod invoke;
 pub mod laws;
 mod machine_core;
+mod page;
 mod script_core;
 #[cfg(test)]
 mod tests;

@@ -3,13 +3,17 @@ ghost use Rattle.std.specs.Prelude.{◌≡◌, ◌≤◌, ◌<◌, [], Some, not
 ghost use Rattle.image_table.specs.ImageTable.{name_at};
 ghost use Rattle.mm_base.specs.Entry.{blank_entry};
 ghost use Rattle.mmi_registry.specs.Handlers.{chain_of};
+ghost use Rattle.mm_core.specs.CodeInside.{IsInvoked};
 ghost use Rattle.mm_core.specs.CoreState.{core_of_tables, without_images};
 ghost use Rattle.mm_core.specs.EntryStep.{has_none};
+ghost use Rattle.mm_core.specs.Invoked.{code_invoked};
 ghost use Rattle.volume_boot.specs.Boots.{AreBooted};
 
+use crate::buffer::Buffer;
+use crate::code::{Code, invoke_code};
 use crate::core_parts::CoreParts;
 use crate::entry_step::outcome_of;
-use mm_base::{Guid, Handler, Machine, NoMemory, Prepared};
+use mm_base::{Ended, Guid, Handler, Machine, NoMemory, Prepared, Records, Saved};
 use mm_memory::PlainFrames;
 use mmi_registry::Registry;
 use platform_model::Platform;
@@ -51,7 +55,7 @@ impl Core {
         ensures { result ≡ core_of_tables tables }
     {
         Core {
-            parts: CoreParts::Booted(tables),
+            parts: CoreParts::Booted(Some(tables)),
         }
     }
 
@@ -61,7 +65,8 @@ impl Core {
     {
         match &self.parts {
             CoreParts::Scripted(..) => 0,
-            CoreParts::Booted(tables) => tables.images(),
+            CoreParts::Booted(Some(tables)) => tables.images(),
+            CoreParts::Booted(None) => unreachable!(),
         }
     }
 
@@ -72,7 +77,8 @@ impl Core {
     {
         match &self.parts {
             CoreParts::Scripted(..) => unreachable!(),
-            CoreParts::Booted(tables) => tables.name(image),
+            CoreParts::Booted(Some(tables)) => tables.name(image),
+            CoreParts::Booted(None) => unreachable!(),
         }
     }
 
@@ -82,7 +88,8 @@ impl Core {
     {
         match &self.parts {
             CoreParts::Scripted(registry, _) => registry.len() as u32,
-            CoreParts::Booted(tables) => tables.handlers() as u32,
+            CoreParts::Booted(Some(tables)) => tables.handlers() as u32,
+            CoreParts::Booted(None) => unreachable!(),
         }
     }
 
@@ -92,7 +99,8 @@ impl Core {
     {
         match &self.parts {
             CoreParts::Scripted(registry, _) => registry.all(k),
-            CoreParts::Booted(tables) => tables.handler(k),
+            CoreParts::Booted(Some(tables)) => tables.handler(k),
+            CoreParts::Booted(None) => unreachable!(),
         }
     }
 
@@ -102,7 +110,8 @@ impl Core {
     {
         match &self.parts {
             CoreParts::Scripted(..) => 0,
-            CoreParts::Booted(tables) => tables.interfaces() as u32,
+            CoreParts::Booted(Some(tables)) => tables.interfaces() as u32,
+            CoreParts::Booted(None) => unreachable!(),
         }
     }
 
@@ -112,7 +121,38 @@ impl Core {
     {
         match &self.parts {
             CoreParts::Scripted(registry, _) => registry.chain(guid, 0).is_some(),
-            CoreParts::Booted(tables) => tables.chain(guid, 0).is_some(),
+            CoreParts::Booted(Some(tables)) => tables.chain(guid, 0).is_some(),
+            CoreParts::Booted(None) => unreachable!(),
+        }
+    }
+
+    /// Invokes code of an image with the message of an entry: its communicate page is filled, it runs under the policy's fuel, and the
+    /// message is what it left in the page. A root handler hands nothing back. It answers how it ended, with its records.
+    pub(crate) fn invoke_code(
+        &mut self,
+        handler: &Handler,
+        code: Code,
+        saved: Saved,
+        buffer: &mut Buffer,
+        records: Records,
+    ) -> (Records, Ended)
+        requires admitted { code.image < length self.old.site.supervised.images }
+        requires blank { records ≡ record { denials = []; writes = [] } }
+        ensures { let run = code_invoked self.old.site saved handler.now code.image code.address
+            (slice_get self.old.site.supervised.images code.image) buffer.old.message self.old.live in
+            IsInvoked self.old handler.now.number run buffer.old result self.new buffer.new }
+    {
+        match &mut self.parts {
+            CoreParts::Scripted(..) => unreachable!(),
+            CoreParts::Booted(place) => {
+                let tables = place.take().unwrap();
+                tables.keeps();
+                let (tables, records, ended) = invoke_code(
+                    tables, handler, code, saved, buffer, records,
+                );
+                *place = Some(tables);
+                (records, ended)
+            }
         }
     }
 

@@ -1,7 +1,6 @@
 //! The version handler: it answers the version of the core.
 ghost use Rattle.std.specs.Prelude.{◌≡◌};
-ghost use Rattle.mm_base.specs.declared.handler.HandlerBody.TheVariants.{Version};
-ghost use Rattle.mm_core.specs.Invoked.{answer_of};
+ghost use Rattle.mm_core.specs.Invoked.{version_answer};
 
 use crate::buffer::Buffer;
 use mm_base::status::{INVALID_PARAMETER, SUCCESS};
@@ -17,8 +16,8 @@ pub const VERSION_NUMBER: u64 = 0x1_0008;
 
 /// Answers the version into the message, where there is place for it, and returns the status.
 pub(crate) fn answer_version(buffer: &mut Buffer) -> u64
-    ensures status { result ≡ (answer_of Version buffer.old.message).status }
-    ensures message { buffer.new ≡ record buffer.old { message = (answer_of Version buffer.old.message).message } }
+    ensures status { result ≡ (version_answer buffer.old.message).status }
+    ensures message { buffer.new ≡ record buffer.old { message = (version_answer buffer.old.message).message } }
 {
     if buffer.message_bytes() < WORD_BYTES {
         return INVALID_PARAMETER;

@@ -13,7 +13,7 @@ pub enum Fault<'a> {
     NoText {
         place: usize,
     },
-    #[error("usage: mm_main script FILE, mm_main check FILE, or mm_main boot FILE")]
+    #[error("usage: mm_main script FILE, mm_main check FILE, mm_main boot FILE, or mm_main serve FILE SCRIPT")]
     Usage,
     #[error("{name:?}, byte {at:#x}: {why}")]
     BadVolume {
@@ -98,6 +98,14 @@ impl<'a> RunFacts<'a> {
     fn has_handlers(&self) -> bool {
         self.command == Some(Command::Script)
     }
+
+    /// The source that is a text: behind a volume the second one.
+    fn text(&self) -> SourceFacts<'a> {
+        match self.command {
+            Some(Command::Serve) => self.second,
+            _ => self.first,
+        }
+    }
 }
 
 impl<'a> Fault<'a> {
@@ -135,7 +143,7 @@ impl<'a> Fault<'a> {
 
     fn of_text(run: &RunFacts<'a>, line: u32, kind: TextKind) -> Fault<'a> {
         Fault::BadText {
-            name: run.first.name,
+            name: run.text().name,
             line,
             why: why_no_script(kind, run.has_handlers()),
         }

@@ -3,3 +3,4 @@ pub mod DriveLemmas
 pub mod OneSourceLemmas
 pub mod RunLemmas
 pub mod ScriptLemmas
+pub mod ServeLemmas

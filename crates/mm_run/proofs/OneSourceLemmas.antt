@@ -11,7 +11,7 @@ use Rattle.mm_run.specs.RunWorld.{StandsForScript}
 use Rattle.mm_run.specs.SourceKinds.{most_of, IsGoodAs}
 use Rattle.mm_run.specs.Sources.{NamedSource, sources_named, HasFailed, WasRead, StopsRun, Wanting, RunStops, AllRead, HoldsGood, AllHoldGood, HoldsFault, FaultHeld, FirstBad, OthersAreUntouched}
 use Rattle.mm_run.specs.declared.command.Command.{Command}
-use Rattle.mm_run.specs.declared.command.Command.TheVariants.{Script, Check, Boot}
+use Rattle.mm_run.specs.declared.command.Command.TheVariants.{Script, Check, Boot, Serve}
 use Rattle.mm_run.specs.declared.status.Status.{Status}
 
 -- a run stops at its one source; where memory was refused in the run itself, at most as many bytes came as may
@@ -42,12 +42,14 @@ one_good s bytes calm told within good =
 pub one_bad : (s : NamedSource) (status : Status) → (HasFailed s → ⊥) → HoldsFault s status → FirstBad (s ∷ []) status
 one_bad s status calm held = inl (FaultHeld calm held)
 
--- the second source is untouched, and the first one too where the words are of no form
-pub second_untouched : (named : Option Command) (First Second : Type 0) → OthersAreUntouched (sources_named named) First Second → Second
-second_untouched None First Second others = others.1
-second_untouched (Some Script) First Second others = others
-second_untouched (Some Check) First Second others = others
-second_untouched (Some Boot) First Second others = others
+-- the second source is untouched where no command of two sources is named, and the first one too where the words are of no form
+pub second_untouched : (named : Option Command) (First Second : Type 0) → (named ≡ Some Serve → ⊥)
+    → OthersAreUntouched (sources_named named) First Second → Second
+second_untouched None First Second other others = others.1
+second_untouched (Some Script) First Second other others = others
+second_untouched (Some Check) First Second other others = others
+second_untouched (Some Boot) First Second other others = others
+second_untouched (Some Serve) First Second other others = absurd (other refl)
 
 pub first_untouched : (First Second : Type 0) → OthersAreUntouched (sources_named None) First Second → First
 first_untouched First Second others = others.0

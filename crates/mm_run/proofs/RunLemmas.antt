@@ -1,5 +1,5 @@
 -- What a run comes to, for each command.
-use Rattle.std.proofs.Common.{◌≡◌, ◌≤◌, ◌⊎◌, inl, inr, ℕ, List, [], ◌∷◌, ◌++◌, length, true, false, Some, None, Result, Ok, Err, IfErr, refl, sym, ap, ◌∙◌, subst, arith}
+use Rattle.std.proofs.Common.{◌≡◌, ◌≤◌, ◌⊎◌, inl, inr, ℕ, List, [], ◌∷◌, ◌++◌, length, true, false, Some, None, Result, Ok, Err, IfErr, slice_get, refl, sym, ap, ◌∙◌, subst, arith}
 use Rattle.std.proofs.lemmas.List.{append-nil, length-append}
 use Rattle.std.proofs.lemmas.Option.{none-some, same_Some}
 use Rattle.std.specs.Prelude.{String}
@@ -26,16 +26,16 @@ use Rattle.mm_run.specs.Command.{command_of, drives}
 use Rattle.mm_run.specs.Run.{IsReport, Reports, Shows, Whole, Front}
 use Rattle.mm_run.specs.RunHeadline.{Drives, IsHeadlineOf, OfWorld}
 use Rattle.mm_run.specs.RunWorld.{StandsForScript}
-use Rattle.mm_run.specs.RunInside.{one_kind, one_source, IsMadeOfScript, IsMadeOf, IsMade, RefusesBytes}
+use Rattle.mm_run.specs.RunInside.{both_sources, HasOneSource, one_kind, one_source, IsMadeOfScript, IsMadeOf, IsMade, RefusesBytes}
 use Rattle.mm_run.specs.ScriptRun.{core_of, past_of, lanes_of, run_report, report_for}
 use Rattle.mm_run.specs.SourceKinds.{most_of, IsGoodAs, IsFaultyAs}
 use Rattle.mm_run.specs.Sources.{Seen, NamedSource, sources, sources_of, sources_named, HasFailed, WasRead, WasGood, StopsRun, Unreadable, Long, Faulty, Wanting, HoldsGood, AllHoldGood, HoldsFault, HoldsBad, FaultHeld, TooMuchHeld, FirstBad, OthersAreUntouched}
 use Rattle.mm_run.specs.Status.{writes}
 use Rattle.mm_run.specs.declared.command.Command.{Command}
-use Rattle.mm_run.specs.declared.command.Command.TheVariants.{Script as ScriptCommand, Check, Boot}
+use Rattle.mm_run.specs.declared.command.Command.TheVariants.{Script as ScriptCommand, Check, Boot, Serve}
 use Rattle.mm_run.specs.declared.made.Made.{Made}
 use Rattle.mm_run.specs.declared.source_kind.SourceKind.{SourceKind}
-use Rattle.mm_run.specs.declared.source_kind.SourceKind.TheVariants.{ScriptText, VolumeBytes}
+use Rattle.mm_run.specs.declared.source_kind.SourceKind.TheVariants.{ScriptText, VolumeBytes, EventsText}
 use Rattle.mm_run.specs.declared.status.BadKind.TheVariants.{Volume as VolumeIsBad, Policy as PolicyIsBad}
 use Rattle.mm_run.specs.declared.status.Status.{Status}
 use Rattle.mm_run.specs.declared.status.Status.TheVariants.{Done, Usage, BadVolume, BadText, ReadFault, WriteFault, TooLong, NoMemory}
@@ -45,6 +45,7 @@ use Rattle.mm_run.specs.declared.status.Status.TheVariants.{Done, Usage, BadVolu
 -- good bytes have no fault
 never_faulty : (kind : SourceKind) (bytes : List ℕ) (status : Status) → IsGoodAs kind bytes → IsFaultyAs kind bytes status → ⊥
 never_faulty ScriptText bytes status good bad = never-both true bytes good.script bad.fault good.is bad.has
+never_faulty EventsText bytes status good bad = never-both false bytes good.script bad.fault good.is bad.has
 never_faulty VolumeBytes bytes status good (inl bad) = never_volume_and_fault bytes good.volume bad.fault good.is bad.has
 never_faulty VolumeBytes bytes status good (inr bad) =
     let P : Volume → Type 0 = λ volume. HasVolumePolicyFault bytes volume.files bad.fault in
@@ -59,6 +60,10 @@ one_fault : (kind : SourceKind) (bytes : List ℕ) (one other : Status)
 one_fault ScriptText bytes one other a b =
     a.status_is
     ∙ ap (λ (fault : TextFault). BadText fault.line fault.kind) (fault-unique true bytes a.fault b.fault a.has b.has)
+    ∙ sym b.status_is
+one_fault EventsText bytes one other a b =
+    a.status_is
+    ∙ ap (λ (fault : TextFault). BadText fault.line fault.kind) (fault-unique false bytes a.fault b.fault a.has b.has)
     ∙ sym b.status_is
 one_fault VolumeBytes bytes one other (inl a) (inl b) =
     a.status_is
@@ -75,11 +80,14 @@ one_fault VolumeBytes bytes one other (inr a) (inr b) =
 -- a fault is no status that writes, and not that of faulty words
 fault_writes_nothing : (kind : SourceKind) (bytes : List ℕ) (status : Status) → IsFaultyAs kind bytes status → writes status ≡ false
 fault_writes_nothing ScriptText bytes status bad = ap writes bad.status_is
+fault_writes_nothing EventsText bytes status bad = ap writes bad.status_is
 fault_writes_nothing VolumeBytes bytes status (inl bad) = ap writes bad.status_is
 fault_writes_nothing VolumeBytes bytes status (inr bad) = ap writes bad.status_is
 
 fault_not_usage : (kind : SourceKind) (bytes : List ℕ) (status : Status) → IsFaultyAs kind bytes status → status ≡ Usage → ⊥
 fault_not_usage ScriptText bytes status bad e =
+    let u : BadText bad.fault.line bad.fault.kind ≡ Usage = sym bad.status_is ∙ e in cc
+fault_not_usage EventsText bytes status bad e =
     let u : BadText bad.fault.line bad.fault.kind ≡ Usage = sym bad.status_is ∙ e in cc
 fault_not_usage VolumeBytes bytes status (inl bad) e =
     let u : BadVolume bad.fault.at (VolumeIsBad bad.fault.kind) ≡ Usage = sym bad.status_is ∙ e in cc
@@ -94,6 +102,7 @@ made_good Check bytes made of =
 made_good Boot bytes made of =
     let report = of.report.report in
     record { volume = of.report.volume; is = of.report.is; policy = report.policy; policy_is = report.policy_is }
+made_good Serve bytes made of = absurd of
 
 made_report : (command : Command) (bytes : List ℕ) (made : Made) → IsMadeOf command bytes made → IsReport command (bytes ∷ []) made.text
 made_report ScriptCommand bytes made of = record {
@@ -106,6 +115,7 @@ made_report ScriptCommand bytes made of = record {
 made_report Check bytes made of = record { bytes = bytes; given = refl; report = of.report }
 made_report Boot bytes made of =
     record { bytes = bytes; given = refl; volume = of.report.volume; is = of.report.is; report = of.report.report }
+made_report Serve bytes made of = absurd of
 
 -- ---- what a source gave
 
@@ -147,7 +157,7 @@ not_too_much most (Some left) now given all more =
     omega (arith, more, all.within, ap length (given_all most (Some left) now left given refl all))
 
 -- a refusal by bytes is one of the source that gave them
-refused_bytes : (s : NamedSource) (bytes : List ℕ) (status : Status) → WasRead s bytes → RefusesBytes s.kind bytes status → StopsRun s status
+pub refused_bytes : (s : NamedSource) (bytes : List ℕ) (status : Status) → WasRead s bytes → RefusesBytes s.kind bytes status → StopsRun s status
 refused_bytes s bytes status read (inl faulty) = Faulty bytes read faulty
 refused_bytes s bytes status read (inr wanting) = Wanting (bytes, read.within, read.gives) wanting
 
@@ -177,7 +187,7 @@ stop_not_usage s status (Faulty bytes read faulty) e = fault_not_usage s.kind by
 stop_not_usage s status (Wanting most is) e = let u : NoMemory out_of_memory ≡ Usage = sym is ∙ e in cc
 
 -- good bytes that can be read stop a run out of memory alone
-stop_good : (s : NamedSource) (status : Status) → StopsRun s status → HoldsGood s → status ≡ NoMemory out_of_memory
+pub stop_good : (s : NamedSource) (status : Status) → StopsRun s status → HoldsGood s → status ≡ NoMemory out_of_memory
 stop_good s status (Unreadable risen most is) h = absurd (h.calm risen)
 stop_good s status (Long more is) h = absurd (not_long (most_of s.kind) s.seen.before s.seen.now h.bytes h.told h.within more)
 stop_good s status (Faulty bytes read faulty) h =
@@ -221,7 +231,7 @@ stop_bad s status fault stop (FaultHeld calm held) = stop_fault s status fault s
 stop_bad s status fault stop (TooMuchHeld calm much is) = stop_too_much s status fault stop calm much is
 
 -- what was read and is good isn't to be refused
-good_not_bad : (s : NamedSource) (fault : Status) → WasGood s → HoldsBad s fault → ⊥
+pub good_not_bad : (s : NamedSource) (fault : Status) → WasGood s → HoldsBad s fault → ⊥
 good_not_bad s fault w (FaultHeld calm h) =
     let P : List ℕ → Type 0 = λ bytes. IsFaultyAs s.kind bytes fault in
     never_faulty s.kind w.bytes fault w.good
@@ -231,21 +241,25 @@ good_not_bad s fault w (TooMuchHeld calm much is) = not_too_much (most_of s.kind
 -- ---- one source
 
 -- a command that has one source has no other, whatever is seen of it
-one_is : (command : Command) (first second : Seen) → one_source command first ∷ [] ≡ sources (sources_of command) first second
-one_is ScriptCommand first second = refl
-one_is Check first second = refl
-one_is Boot first second = refl
+one_is : (command : Command) (first second : Seen) → HasOneSource command
+    → one_source command first ∷ [] ≡ sources (sources_of command) first second
+one_is ScriptCommand first second one = refl
+one_is Check first second one = refl
+one_is Boot first second one = refl
+one_is Serve first second one = absurd (cc)
 
 -- so what holds of the one holds of all
-pub of_sources : (P : List NamedSource → Type 0) (command : Command) (first second : Seen)
+pub of_sources : (P : List NamedSource → Type 0) (command : Command) (first second : Seen) → HasOneSource command
     → P (one_source command first ∷ [])
     → P (sources (sources_of command) first second)
-of_sources P command first second = subst P (one_is command first second)
+of_sources P command first second one = subst P (one_is command first second one)
 
-pub others_untouched : (command : Command) (First Second : Type 0) → Second → OthersAreUntouched (sources_of command) First Second
-others_untouched ScriptCommand First Second second = second
-others_untouched Check First Second second = second
-others_untouched Boot First Second second = second
+pub others_untouched : (command : Command) (First Second : Type 0) → HasOneSource command → Second
+    → OthersAreUntouched (sources_of command) First Second
+others_untouched ScriptCommand First Second one second = second
+others_untouched Check First Second one second = second
+others_untouched Boot First Second one second = second
+others_untouched Serve First Second one second = absurd (cc)
 
 -- all that holds good stops out of memory alone
 pub stopped_good : (s : NamedSource) (status : Status) → StopsRun s status → AllHoldGood (s ∷ []) → status ≡ NoMemory out_of_memory
@@ -293,21 +307,66 @@ pub served_all : (P : Command → List NamedSource → Type 0) (words told : Lis
     → Some one ≡ command_of told
     → told ≡ words
     → command_of words ≡ Some other
+    → HasOneSource one
     → P one (one_source one first ∷ [])
     → P other (sources (sources_of other) first second)
-served_all P words told one other first second is same also h =
+served_all P words told one other first second is same also alone h =
     let Q : Command → Type 0 = λ command. P command (sources (sources_of command) first second) in
-    subst Q (same_command words told one other is same also) (of_sources (P one) one first second h)
+    subst Q (same_command words told one other is same also) (of_sources (P one) one first second alone h)
+
+-- a command that has a second source is `serve`
+is_serve : (command : Command) (kind : SourceKind) → Some kind ≡ slice_get (sources_of command) 1 → command ≡ Serve
+is_serve ScriptCommand kind there = absurd (cc)
+is_serve Check kind there = absurd (cc)
+is_serve Boot kind there = absurd (cc)
+is_serve Serve kind there = refl
+
+-- and what holds of `serve` over its two sources holds of the command of the words over its own
+pub served_both : (P : Command → List NamedSource → Type 0) (words told : List (String Global)) (one other : Command) (kind : SourceKind)
+    (first second : Seen)
+    → Some one ≡ command_of told
+    → told ≡ words
+    → command_of words ≡ Some other
+    → Some kind ≡ slice_get (sources_of one) 1
+    → P Serve (both_sources first second)
+    → P other (sources (sources_of other) first second)
+served_both P words told one other kind first second is same also there h =
+    let Q : Command → Type 0 = λ command. P command (sources (sources_of command) first second) in
+    subst Q (sym (is_serve one kind there) ∙ same_command words told one other is same also) h
+
+-- it drives a world
+pub serve_drives : (words told : List (String Global)) (one other : Command) (kind : SourceKind)
+    → Some one ≡ command_of told
+    → told ≡ words
+    → command_of words ≡ Some other
+    → Some kind ≡ slice_get (sources_of one) 1
+    → drives other ≡ false
+    → ⊥
+serve_drives words told one other kind is same also there none =
+    let driven : drives other ≡ true = ap drives (sym (same_command words told one other is same also) ∙ is_serve one kind there) in
+    let clash : true ≡ false = sym driven ∙ none in
+    absurd (cc)
+
+-- and no source of it is one that isn't named
+pub none_unnamed : (words told : List (String Global)) (command : Command) (kind : SourceKind) (First Second : Type 0)
+    → Some command ≡ command_of told
+    → told ≡ words
+    → Some kind ≡ slice_get (sources_of command) 1
+    → OthersAreUntouched (sources_named (command_of words)) First Second
+none_unnamed words told command kind First Second is same there =
+    let P : Option Command → Type 0 = λ named. OthersAreUntouched (sources_named named) First Second in
+    subst P (ap Some (sym (is_serve command kind there)) ∙ is ∙ ap command_of same) tt
 
 -- what the words don't name is untouched
 pub untouched_by_command : (words told : List (String Global)) (command : Command) (First Second : Type 0)
     → Some command ≡ command_of told
     → told ≡ words
+    → HasOneSource command
     → Second
     → OthersAreUntouched (sources_named (command_of words)) First Second
-untouched_by_command words told command First Second is same second =
+untouched_by_command words told command First Second is same one second =
     let P : Option Command → Type 0 = λ named. OthersAreUntouched (sources_named named) First Second in
-    subst P (is ∙ ap command_of same) (others_untouched command First Second second)
+    subst P (is ∙ ap command_of same) (others_untouched command First Second one second)
 
 pub untouched_by_none : (words told : List (String Global)) (First Second : Type 0)
     → None ≡ command_of told
@@ -344,7 +403,7 @@ made_text bytes made of =
     ∙ ap (λ (ls : List (List ℕ)). run_report of.by_script.world.entries ls) (sym of.by_script.driven.lanes)
 
 -- what is shown on the two statuses that write
-shown_by : (before now : Option (List ℕ)) (status : Status) (text : List ℕ)
+pub shown_by : (before now : Option (List ℕ)) (status : Status) (text : List ℕ)
     → (status ≡ Done) ⊎ (status ≡ WriteFault)
     → (status ≡ Done → Appends before now text)
     → (status ≡ WriteFault → AppendsFront before now text)
@@ -387,7 +446,6 @@ module _ (seen : Seen) (made : Made) (bytes : List ℕ) (read : WasRead (one_sou
       → (status ≡ WriteFault → AppendsFront before now made.text)
       → OfWorld (IsHeadlineOf ScriptCommand (one_source ScriptCommand seen ∷ []) before now status) made.world
   script_headline before now status ends done front =
-      let P : List ℕ → Type 0 = λ text. Shows before now status text in
       let Q : Option (WorldState CoreState) → Type 0 =
       OfWorld (IsHeadlineOf ScriptCommand (one_source ScriptCommand seen ∷ []) before now status) in
       let says : IsHeadlineOf ScriptCommand (one_source ScriptCommand seen ∷ []) before now status of.by_script.world = record {
@@ -397,7 +455,9 @@ module _ (seen : Seen) (made : Made) (bytes : List ℕ) (read : WasRead (one_sou
         says =
             headline_of core_step (core_of of.script) of.script.events of.by_script.world
             (λ core request. (core_step-within core request).reply) of.by_script.driven.stands;
-        shown = subst P (made_text bytes made of) (shown_by before now status made.text ends done front);
+        text = made.text;
+        reported = made_text bytes made of;
+        shown = shown_by before now status made.text ends done front;
       } in
       subst Q (sym of.by_script.there) says
 
@@ -409,6 +469,7 @@ pub made_stands : (command : Command) (seen : Seen) (made : Made)
 made_stands ScriptCommand seen made m is = script_stands seen made m.bytes m.read m.of_bytes
 made_stands Check seen made m is = absurd (let u : false ≡ true = is in cc)
 made_stands Boot seen made m is = absurd (let u : false ≡ true = is in cc)
+made_stands Serve seen made m is = absurd m.of_bytes
 
 pub made_headline : (command : Command) (seen : Seen) (before now : Option (List ℕ)) (status : Status) (made : Made)
     → IsMade command seen made
@@ -421,6 +482,7 @@ made_headline ScriptCommand seen before now status made m is ends done front =
     script_headline seen made m.bytes m.read m.of_bytes before now status ends done front
 made_headline Check seen before now status made m is ends done front = absurd (let u : false ≡ true = is in cc)
 made_headline Boot seen before now status made m is ends done front = absurd (let u : false ≡ true = is in cc)
+made_headline Serve seen before now status made m is ends done front = absurd m.of_bytes
 
 -- and one that drives none hands out none
 pub made_worldless : (command : Command) (seen : Seen) (made : Made)
@@ -430,3 +492,4 @@ pub made_worldless : (command : Command) (seen : Seen) (made : Made)
 made_worldless ScriptCommand seen made m is = absurd (let u : true ≡ false = is in cc)
 made_worldless Check seen made m is = m.of_bytes.none
 made_worldless Boot seen made m is = m.of_bytes.none
+made_worldless Serve seen made m is = absurd m.of_bytes

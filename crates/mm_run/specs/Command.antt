@@ -6,7 +6,7 @@ use Rattle.std.specs.String.{string_bytes}
 use Rattle.std.specs.declared.alloc.Global.{Global}
 use Rattle.std.specs.declared.option.Option.{Option}
 use Rattle.mm_run.specs.declared.command.Command.{Command}
-use Rattle.mm_run.specs.declared.command.Command.TheVariants.{Script, Check, Boot}
+use Rattle.mm_run.specs.declared.command.Command.TheVariants.{Script, Check, Boot, Serve}
 
 -- A form of the command line: a command's name, how many words follow it, and the command.
 pub record Form : Type 0 where
@@ -23,6 +23,7 @@ forms =
     form (codes "script") 1 Script
     ∷ form (codes "check") 1 Check
     ∷ form (codes "boot") 1 Boot
+    ∷ form (codes "serve") 2 Serve
     ∷ []
 
 -- whether words are of a form: its name, and as many words more
@@ -44,3 +45,4 @@ abbrev pub drives : Command → Bool
 drives Script = true
 drives Check = false
 drives Boot = false
+drives Serve = true

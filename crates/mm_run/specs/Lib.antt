@@ -6,6 +6,8 @@ pub mod RunHeadline
 pub mod RunInside
 pub mod RunWorld
 pub mod ScriptRun
+pub mod ServeInside
+pub mod ServeRun
 pub mod SourceKinds
 pub mod Sources
 pub mod Status

@@ -5,9 +5,10 @@ use Rattle.mm_io.specs.Streams.{Appends, AppendsFront}
 use Rattle.mm_run.specs.BootRun.{IsBootReport}
 use Rattle.mm_run.specs.CheckRun.{IsCheckReport}
 use Rattle.mm_run.specs.ScriptRun.{IsScriptReport}
+use Rattle.mm_run.specs.ServeRun.{IsServeReport}
 use Rattle.mm_run.specs.Sources.{NamedSource, AllRead}
 use Rattle.mm_run.specs.declared.command.Command.{Command}
-use Rattle.mm_run.specs.declared.command.Command.TheVariants.{Script, Check, Boot}
+use Rattle.mm_run.specs.declared.command.Command.TheVariants.{Script, Check, Boot, Serve}
 use Rattle.mm_run.specs.declared.status.Status.{Status}
 use Rattle.mm_run.specs.declared.status.Status.TheVariants.{Done, WriteFault}
 
@@ -16,6 +17,7 @@ abbrev pub IsReport : Command → List (List ℕ) → List ℕ → Type 0
 IsReport Script contents text = IsScriptReport contents text
 IsReport Check contents text = IsCheckReport contents text
 IsReport Boot contents text = IsBootReport contents text
+IsReport Serve contents text = IsServeReport contents text
 
 -- Its sources were read to their ends, and this was done with the report of the command for what they gave.
 pub record Reports (command : Command) (sources : List NamedSource) (IsDoneWith : List ℕ → Type 0) : Type 0 where

@@ -1,6 +1,6 @@
 -- No public clause cites this file.
 -- What the private functions of a run make of the bytes of a source.
-use Rattle.std.specs.Prelude.{◌≡◌, ◌⊎◌, ℕ, List, true, Some, None}
+use Rattle.std.specs.Prelude.{◌≡◌, ◌⊎◌, ℕ, List, true, Some, None, slice_get}
 use Rattle.mm_base.specs.End.{out_of_memory}
 use Rattle.mm_base.specs.declared.volume.Volume.{Volume}
 use Rattle.comm_core.specs.Capture.{trace_of}
@@ -15,9 +15,9 @@ use Rattle.mm_run.specs.BootRun.{IsVolumeBootReport}
 use Rattle.mm_run.specs.CheckRun.{IsVolumeReport}
 use Rattle.mm_run.specs.ScriptRun.{core_of, past_of, entries_of, lanes_of, report_for}
 use Rattle.mm_run.specs.SourceKinds.{IsFaultyAs}
-use Rattle.mm_run.specs.Sources.{NamedSource, Seen, source, WasRead}
+use Rattle.mm_run.specs.Sources.{NamedSource, Seen, source, sources, sources_of, WasRead}
 use Rattle.mm_run.specs.declared.command.Command.{Command}
-use Rattle.mm_run.specs.declared.command.Command.TheVariants.{Script as ScriptCommand, Check, Boot}
+use Rattle.mm_run.specs.declared.command.Command.TheVariants.{Script as ScriptCommand, Check, Boot, Serve}
 use Rattle.mm_run.specs.declared.made.Made.{Made}
 use Rattle.mm_run.specs.declared.source_kind.SourceKind.{SourceKind}
 use Rattle.mm_run.specs.declared.source_kind.SourceKind.TheVariants.{ScriptText, VolumeBytes}
@@ -25,11 +25,12 @@ use Rattle.mm_run.specs.declared.status.Status.{Status}
 use Rattle.mm_run.specs.declared.status.Status.TheVariants.{NoMemory}
 use Rattle.mm_run.specs.declared.status.Which.TheVariants.{First}
 
--- the kind of the one source that a command has
+-- the kind of the one source that a command has; of `serve`, of the first
 abbrev pub one_kind : Command → SourceKind
 one_kind ScriptCommand = ScriptText
 one_kind Check = VolumeBytes
 one_kind Boot = VolumeBytes
+one_kind Serve = VolumeBytes
 
 -- that source
 abbrev pub one_source : Command → Seen → NamedSource
@@ -72,11 +73,12 @@ pub record IsMadeOfBoot (bytes : List ℕ) (made : Made) : Type 0 where
   pub none : made.world ≡ None
   pub report : IsReportOfBoot bytes made.text
 
--- What was made of the bytes of a command's source.
+-- What was made of the bytes of a command's one source.
 abbrev pub IsMadeOf : Command → List ℕ → Made → Type 0
 IsMadeOf ScriptCommand bytes made = IsMadeOfScript bytes made
 IsMadeOf Check bytes made = IsMadeOfVolume bytes made
 IsMadeOf Boot bytes made = IsMadeOfBoot bytes made
+IsMadeOf Serve bytes made = ⊥
 
 -- What was made of a source that was read to its end.
 pub record IsMade (command : Command) (seen : Seen) (made : Made) : Type 0 where
@@ -87,3 +89,11 @@ pub record IsMade (command : Command) (seen : Seen) (made : Made) : Type 0 where
 -- The bytes of a source have a fault with this status, or memory was refused.
 abbrev pub RefusesBytes : SourceKind → List ℕ → Status → Type 0
 RefusesBytes kind bytes status = IsFaultyAs kind bytes status ⊎ (status ≡ NoMemory out_of_memory)
+
+-- A command has one source.
+abbrev pub HasOneSource : Command → Type 0
+HasOneSource command = slice_get (sources_of command) 1 ≡ None
+
+-- the two sources of `serve`
+abbrev pub both_sources : Seen → Seen → List NamedSource
+both_sources first second = sources (sources_of Serve) first second

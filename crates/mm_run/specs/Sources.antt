@@ -9,9 +9,9 @@ use Rattle.mm_io.specs.Causes.{Rose}
 use Rattle.mm_io.specs.Streams.{GivesAll, GivesAtMost, GivesMoreThan, HasMoreThan}
 use Rattle.mm_run.specs.SourceKinds.{most_of, IsGoodAs, IsFaultyAs}
 use Rattle.mm_run.specs.declared.command.Command.{Command}
-use Rattle.mm_run.specs.declared.command.Command.TheVariants.{Script, Check, Boot}
+use Rattle.mm_run.specs.declared.command.Command.TheVariants.{Script, Check, Boot, Serve}
 use Rattle.mm_run.specs.declared.source_kind.SourceKind.{SourceKind}
-use Rattle.mm_run.specs.declared.source_kind.SourceKind.TheVariants.{ScriptText, VolumeBytes}
+use Rattle.mm_run.specs.declared.source_kind.SourceKind.TheVariants.{ScriptText, VolumeBytes, EventsText}
 use Rattle.mm_run.specs.declared.status.Status.{Status}
 use Rattle.mm_run.specs.declared.status.Status.TheVariants.{ReadFault, TooLong, NoMemory}
 use Rattle.mm_run.specs.declared.status.Which.{Which}
@@ -22,6 +22,7 @@ abbrev pub sources_of : Command → List SourceKind
 sources_of Script = ScriptText ∷ []
 sources_of Check = VolumeBytes ∷ []
 sources_of Boot = VolumeBytes ∷ []
+sources_of Serve = VolumeBytes ∷ EventsText ∷ []
 
 -- those of words, which name no source where they are of no form
 abbrev pub sources_named : Option Command → List SourceKind

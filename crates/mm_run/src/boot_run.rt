@@ -23,10 +23,21 @@ pub(crate) fn boot_bytes(alloc: Global, bytes: &[u8]) -> Result<Made, Status>
     ensures ok { IfOk result (IsMadeOfBoot bytes.now) }
     ensures err { IfErr result (RefusesBytes VolumeBytes bytes.now) }
 {
-    let volume = read_volume(alloc, bytes)?;
-    let policy = policy_of(alloc, bytes, &volume)?;
+    let (volume, policy) = good_volume(alloc, bytes)?;
     let text = boot_known(alloc, bytes, &volume, policy.as_ref())?;
     Ok(Made { world: None, text })
+}
+
+/// The volume that these bytes are, and its policy. The volume's fault comes before that of its policy.
+pub(crate) fn good_volume(alloc: Global, bytes: &[u8]) -> Result<(Volume, Option<Policy>), Status>
+    requires { length bytes.now ≤ 16777216 }
+    ensures volume { IfOk result (λ told. IsVolume bytes.now told.0) }
+    ensures policy { IfOk result (λ told. IsVolumePolicy bytes.now told.0.files told.1) }
+    ensures err { IfErr result (RefusesBytes VolumeBytes bytes.now) }
+{
+    let volume = read_volume(alloc, bytes)?;
+    let policy = policy_of(alloc, bytes, &volume)?;
+    Ok((volume, policy))
 }
 
 /// The report of the boot of a volume, whose policy is known.
@@ -105,7 +116,7 @@ fn boot_told<'a>(
 }
 
 /// What a core has at lock.
-fn locked_now(alloc: Global, core: &Core) -> Result<Locked, NoMemory>
+pub(crate) fn locked_now(alloc: Global, core: &Core) -> Result<Locked, NoMemory>
     ensures { IfOk result (λ locked. locked ≡ locked_in core.now) }
 {
     let names = image_names(alloc, core)?;

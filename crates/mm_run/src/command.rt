@@ -6,7 +6,7 @@ ghost use Rattle.mm_run.specs.Sources.{sources_of, kind_of_which};
 use crate::source_kind::SourceKind;
 use crate::status::Which;
 
-/// A command, by the first word of the command line. Each takes one word more, which names its source.
+/// A command, by the first word of the command line. The words after it name its sources.
 #[derive(Clone, Copy, Debug, PartialEq, Eq)]
 pub enum Command {
     /// `script`: a world is driven through a script.
@@ -15,6 +15,8 @@ pub enum Command {
     Check,
     /// `boot`: the drivers of a firmware volume are started, and what they did is told.
     Boot,
+    /// `serve`: a firmware volume is booted, and a world is driven through a script from the core that the boot leaves.
+    Serve,
 }
 
 impl Command {
@@ -24,7 +26,10 @@ impl Command {
     {
         match (self, which) {
             (Command::Script, Which::First) => Some(SourceKind::ScriptText),
-            (Command::Check | Command::Boot, Which::First) => Some(SourceKind::VolumeBytes),
+            (Command::Check | Command::Boot | Command::Serve, Which::First) => {
+                Some(SourceKind::VolumeBytes)
+            }
+            (Command::Serve, Which::Second) => Some(SourceKind::EventsText),
             (_, Which::Second) => None,
         }
     }
@@ -39,6 +44,10 @@ pub fn command_of(words: &[String]) -> Option<Command>
             "script" => Some(Command::Script),
             "check" => Some(Command::Check),
             "boot" => Some(Command::Boot),
+            _ => None,
+        },
+        [name, _, _] => match name.as_str() {
+            "serve" => Some(Command::Serve),
             _ => None,
         },
         _ => None,

@@ -1,5 +1,6 @@
 //! Floor: program. It promises that a command ends with the status that its sources' bytes and faults give, and that what is
-//! written is the report of the world that a script drives, of the volume that bytes are, or of its boot. It never opens a file or prints.
+//! written is the report of the world that a script drives, of the volume that bytes are, of its boot, or of
+//! a boot and a script that is run from there. It never opens a file or prints.
 #![tactic(auto)]
 
 mod boot_run;
@@ -9,6 +10,7 @@ mod drive;
 mod lanes;
 mod made;
 mod script_run;
+mod serve_run;
 mod source_kind;
 mod status;
 mod top_call;

@@ -67,6 +67,20 @@ fn driven_world(alloc: Global, script: &Script) -> Result<World<Core>, NoMemory>
     ensures lanes { IfOk result (λ world. length world.lanes ≡ script.now.lanes) }
 {
     let core = scripted(alloc, &script.opening, &script.handlers)?;
+    world_from(alloc, core, script)
+}
+
+/// The world that the script drives from this core.
+pub(crate) fn world_from(
+    alloc: Global,
+    core: Core,
+    script: &Script,
+) -> Result<World<Core>, NoMemory>
+    requires { IsWithinLimits script.now }
+    ensures stands { IfOk result (StandsForEvents core_step core script.now.events) }
+    ensures words { IfOk result (λ world. world.words ≡ script.now.words) }
+    ensures lanes { IfOk result (λ world. length world.lanes ≡ script.now.lanes) }
+{
     let mut world = World::new(alloc, core, script.lanes, script.words)?;
     drive(&mut world, script.events.as_slice())?;
     Ok(world)

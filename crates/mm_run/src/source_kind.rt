@@ -15,6 +15,8 @@ pub enum SourceKind {
     ScriptText,
     /// The bytes of a firmware volume.
     VolumeBytes,
+    /// The text of a script without handler lines.
+    EventsText,
 }
 
 impl SourceKind {
@@ -23,7 +25,7 @@ impl SourceKind {
         ensures { result ≡ most_of self }
     {
         match self {
-            SourceKind::ScriptText => MOST_SCRIPT_BYTES,
+            SourceKind::ScriptText | SourceKind::EventsText => MOST_SCRIPT_BYTES,
             SourceKind::VolumeBytes => MOST_VOLUME_BYTES,
         }
     }

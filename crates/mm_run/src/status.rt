@@ -13,7 +13,7 @@ use volume_reader::VolumeEnd;
 pub enum Which {
     /// The script or the volume.
     First,
-    /// The source that a form names after it; no form that is served has one yet.
+    /// The script beside a volume.
     Second,
 }
 

@@ -1,30 +1,36 @@
 //! The program's top call.
-ghost use Rattle.std.specs.Prelude.{◌≡◌, ◌↔◌, ◌⊎◌, Some, None, true, false, [], ◌∷◌, IfOk, IfErr};
+ghost use Rattle.std.specs.Prelude.{◌≡◌, ◌≤◌, ◌↔◌, ◌⊎◌, Some, None, true, false, [], ◌∷◌, ⊤, length, IfOk, IfErr};
+ghost use Rattle.std.specs.Option.{option_copied};
 ghost use Rattle.mm_base.specs.End.{out_of_memory};
 ghost use Rattle.mm_io.specs.Causes.{Rose};
 ghost use Rattle.mm_io.specs.Streams.{Appends, AppendsFront};
 ghost use Rattle.mm_run.specs.Command.{command_of as command_of_words, drives};
 ghost use Rattle.mm_run.specs.Run.{Reports};
 ghost use Rattle.mm_run.specs.RunHeadline.{IsHeadlineOf, OfWorld};
-ghost use Rattle.mm_run.specs.RunInside.{one_source, IsMade};
+ghost use Rattle.mm_run.specs.RunInside.{both_sources, one_source, HasOneSource, IsMade};
 ghost use Rattle.mm_run.specs.RunWorld.{StandsForScript};
+ghost use Rattle.mm_run.specs.ServeInside.{IsMadeOfBoth, IsMadeWith};
 ghost use Rattle.mm_run.specs.Sources.{seen, source as source_of, sources, sources_of, sources_named};
 ghost use Rattle.mm_run.specs.Sources.{RunStops, StopsRun, AllHoldGood, FirstBad, OthersAreUntouched, WasRead};
 ghost use Rattle.mm_run.specs.Status.{writes, has_no_world};
 ghost use Rattle.mm_run.specs.declared.command.Command.{Command as CommandValue};
+ghost use Rattle.volume_policy.specs.PolicyFiles.{IsVolumePolicy};
+ghost use Rattle.volume_reader.specs.VolumeGrammar.{IsVolume};
 ghost use Rattle.mm_run.specs.declared.status.Status.{Status as StatusValue};
 
-use crate::boot_run::boot_bytes;
+use crate::boot_run::{boot_bytes, good_volume};
 use crate::check_run::check_volume;
 use crate::command::{Command, command_of};
 use crate::made::Made;
 use crate::script_run::run_script;
+use crate::serve_run::serve_script;
 use crate::source_kind::SourceKind;
 use crate::status::{Status, Which};
 use comm_core::World;
-use mm_base::Bytes;
+use mm_base::{Bytes, Policy, Volume};
 use mm_core::Core;
 use mm_io::{Sink, Source, read_all, write_all};
+use mm_text::read_script;
 use std::alloc::Global;
 
 /// How a run ended, and the world that it drove.
@@ -36,9 +42,9 @@ pub struct RunEnd {
     pub world: Option<World<Core>>,
 }
 
-/// Does all that the program does. The words are `script`, `check` or `boot` and one word more: the script or the volume is the first
-/// source, and the report goes to the sink. A script costs a step for each byte read and written and for each action of the
-/// processor; a volume what `catalog` of `mm_core` says; and its boot that and what `boot` of `mm_core` says.
+/// Does all that the program does. The words are `script`, `check` or `boot` and one word more, or `serve` and two: the script or the volume is the
+/// first source, the script of `serve` the second, and the report goes to the sink. A script costs a step for each byte read and written and for each action of the
+/// processor; a volume what `catalog` of `mm_core` says; its boot that and what `boot` of `mm_core` says; and `serve` what both do.
 pub fn run<V: Source, S: Source, K: Sink>(
     alloc: Global,
     words: &Vec<String>,
@@ -103,7 +109,10 @@ pub fn run<V: Source, S: Source, K: Sink>(
         (first.new ≡ first.old) (second.new ≡ second.old) }
 {
     match command_of(words.as_slice()) {
-        Some(command) => serve(alloc, command, first, out),
+        Some(command) => match command.source(Which::Second) {
+            Some(_) => serve_both(alloc, first, second, out),
+            None => serve_one(alloc, command, first, out),
+        },
         None => refused(Status::Usage),
     }
 }
@@ -119,8 +128,14 @@ fn refused(status: Status) -> RunEnd
     }
 }
 
-/// Serves a command.
-fn serve<V: Source, K: Sink>(alloc: Global, command: Command, first: &mut V, out: &mut K) -> RunEnd
+/// Serves a command that has one source.
+fn serve_one<V: Source, K: Sink>(
+    alloc: Global,
+    command: Command,
+    first: &mut V,
+    out: &mut K,
+) -> RunEnd
+    requires { HasOneSource command }
     ensures refusal { writes result.status ≡ false →
         StopsRun (one_source command (seen V.left V.fault_count first.old first.new)) result.status }
     ensures served { result.status ≡ Status.Usage → ⊥ }
@@ -158,8 +173,9 @@ fn serve<V: Source, K: Sink>(alloc: Global, command: Command, first: &mut V, out
     }
 }
 
-/// Reads the command's source, and makes of it what the command says.
+/// Reads the command's one source, and makes of it what the command says.
 fn make<V: Source>(alloc: Global, command: Command, first: &mut V) -> Result<Made, Status>
+    requires { HasOneSource command }
     ensures ok { IfOk result (IsMade command (seen V.left V.fault_count first.old first.new)) }
     ensures err { IfErr result (StopsRun (one_source command (seen V.left V.fault_count first.old first.new))) }
 {
@@ -176,7 +192,86 @@ fn make<V: Source>(alloc: Global, command: Command, first: &mut V) -> Result<Mad
             let volume = read(alloc, SourceKind::VolumeBytes, Which::First, first)?;
             boot_bytes(alloc, volume.as_slice())
         }
+        Command::Serve => unreachable!(),
     }
+}
+
+/// Serves `serve`, which has two sources. The second one is not read where the first one stops the run.
+fn serve_both<V: Source, S: Source, K: Sink>(
+    alloc: Global,
+    first: &mut V,
+    second: &mut S,
+    out: &mut K,
+) -> RunEnd
+    ensures refusal { writes result.status ≡ false →
+        RunStops (both_sources (seen V.left V.fault_count first.old first.new) (seen S.left S.fault_count second.old second.new))
+        (second.new ≡ second.old) result.status }
+    ensures served { result.status ≡ Status.Usage → ⊥ }
+    ensures write_fault { result.status ≡ Status.WriteFault → Rose (K.fault_count out.old) (K.fault_count out.new) }
+    ensures done { result.status ≡ Status.Done → Reports Command.Serve
+        (both_sources (seen V.left V.fault_count first.old first.new) (seen S.left S.fault_count second.old second.new))
+        (Appends (K.written out.old) (K.written out.new)) }
+    ensures front { result.status ≡ Status.WriteFault → Reports Command.Serve
+        (both_sources (seen V.left V.fault_count first.old first.new) (seen S.left S.fault_count second.old second.new))
+        (AppendsFront (K.written out.old) (K.written out.new)) }
+    ensures nothing { writes result.status ≡ false → out.new ≡ out.old }
+    ensures complete { AllHoldGood
+        (both_sources (seen V.left V.fault_count first.old first.new) (seen S.left S.fault_count second.old second.new)) →
+        (Rose (K.fault_count out.old) (K.fault_count out.new) → ⊥) →
+        (result.status ≡ Status.Done) ⊎ (result.status ≡ Status.NoMemory out_of_memory) }
+    ensures faulty { (status : StatusValue) → FirstBad
+        (both_sources (seen V.left V.fault_count first.old first.new) (seen S.left S.fault_count second.old second.new)) status →
+        (result.status ≡ status) ⊎ (result.status ≡ Status.NoMemory out_of_memory) }
+    ensures headline { writes result.status ≡ true → OfWorld (IsHeadlineOf Command.Serve
+        (both_sources (seen V.left V.fault_count first.old first.new) (seen S.left S.fault_count second.old second.new))
+        (K.written out.old) (K.written out.new) result.status) result.world }
+    ensures stands { writes result.status ≡ true → OfWorld (StandsForScript Command.Serve
+        (both_sources (seen V.left V.fault_count first.old first.new) (seen S.left S.fault_count second.old second.new)))
+        result.world }
+    ensures no_world { has_no_world result.status ≡ true → result.world ≡ None }
+{
+    match make_of_both(alloc, first, second) {
+        Ok(made) => write(made, out),
+        Err(status) => refused(status),
+    }
+}
+
+/// Reads both sources of `serve`, one after another, and makes of them what it says. Each source's fault is told before the next one is
+/// read.
+fn make_of_both<V: Source, S: Source>(
+    alloc: Global,
+    first: &mut V,
+    second: &mut S,
+) -> Result<Made, Status>
+    ensures ok { IfOk result (IsMadeOfBoth (seen V.left V.fault_count first.old first.new)
+        (seen S.left S.fault_count second.old second.new)) }
+    ensures err { IfErr result (RunStops
+        (both_sources (seen V.left V.fault_count first.old first.new) (seen S.left S.fault_count second.old second.new))
+        (second.new ≡ second.old)) }
+{
+    let bytes = read(alloc, SourceKind::VolumeBytes, Which::First, first)?;
+    let (volume, policy) = good_volume(alloc, bytes.as_slice())?;
+    make_with(alloc, bytes.as_slice(), &volume, policy.as_ref(), second)
+}
+
+/// Reads the second source of `serve`, and makes of it and of a volume, whose policy is known, what `serve` says.
+fn make_with<S: Source>(
+    alloc: Global,
+    bytes: &[u8],
+    volume: &Volume,
+    policy: Option<&Policy>,
+    second: &mut S,
+) -> Result<Made, Status>
+    requires volume { IsVolume bytes.now volume.now }
+    requires few { length bytes.now ≤ 16777216 }
+    requires policy { IsVolumePolicy bytes.now volume.now.files (option_copied policy) }
+    ensures ok { IfOk result (IsMadeWith bytes.now (seen S.left S.fault_count second.old second.new)) }
+    ensures err { IfErr result (RunStops
+        (source_of Which.Second SourceKind.EventsText (seen S.left S.fault_count second.old second.new) ∷ []) ⊤) }
+{
+    let text = read(alloc, SourceKind::EventsText, Which::Second, second)?;
+    let script = read_script(alloc, text.as_slice(), false)?;
+    serve_script(alloc, bytes, volume, policy, &script)
 }
 
 /// All bytes of a source of this kind.

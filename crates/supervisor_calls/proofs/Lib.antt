@@ -7,6 +7,7 @@ pub mod HoldingSteps
 pub mod LawLemmas
 pub mod ListingLemmas
 pub mod LoadingLemmas
+pub mod LockLemmas
 pub mod LowestLemmas
 pub mod OutsideLemmas
 pub mod OwnLemmas

@@ -308,3 +308,8 @@ stay_after_lock service stack domain locked =
     ∙ ap (λ (d : DomainState). d.tables.protocols) same
     ∙ ap (λ (b : Bool). if b then domain.tables.protocols else domain.tables.protocols) locked in
     (registry, protocols)
+
+-- no service locks the tables, or unlocks them
+pub lock_stays : (service : Service) (stack : ℕ) (domain : DomainState) → (served service stack domain).1.tables.locked ≡ domain.tables.locked
+unfolding lists
+lock_stays service stack domain = ap (λ (d : DomainState). d.tables.locked) (same_lists domain service stack)

@@ -92,6 +92,8 @@ impl<F: Frames> Bus for Domain<F> {
 
     ghost meaning = { domain_meaning };
 
+    ghost may_refuse = { true };
+
     #[inline(always)]
     fn fetch(&mut self, at: u64, n: u8) -> Result<[u8; 18], Denial> {
         let access = Access::of_memory(Right::Execute, at, n);

@@ -16,6 +16,7 @@ mod judging;
 pub mod laws;
 mod listings;
 mod loading;
+mod locked_domain;
 mod memory_access;
 mod page_services;
 mod pool_services;
@@ -24,4 +25,5 @@ mod tables;
 mod telling;
 
 pub use domain::{Domain, enter};
+pub use locked_domain::{LockedDomain, enter_locked};
 pub use tables::Tables;

@@ -50,7 +50,7 @@ fn names_what_was_refused(rt: HostRuntime) -> Result<(), Fail> {
         (
             None,
             Status::Usage,
-            "usage: mm_main script FILE, mm_main check FILE, or mm_main boot FILE",
+            "usage: mm_main script FILE, mm_main check FILE, mm_main boot FILE, or mm_main serve FILE SCRIPT",
         ),
         (
             Some(Command::Script),
@@ -92,6 +92,24 @@ fn names_what_was_refused(rt: HostRuntime) -> Result<(), Fail> {
             Some(Command::Check),
             Status::WriteFault,
             "standard output could not be written",
+        ),
+        (
+            Some(Command::Serve),
+            Status::TooLong(Which::First),
+            "\"one\" has more than 16777216 bytes",
+        ),
+        (
+            Some(Command::Serve),
+            Status::TooLong(Which::Second),
+            "\"two\" has more than 4194304 bytes",
+        ),
+        (
+            Some(Command::Serve),
+            Status::BadText {
+                line: 2,
+                kind: TextKind::Unknown,
+            },
+            "\"two\", line 2: its first word begins no line: a line is lanes, cell, poke, fill, ring, step or run",
         ),
     ];
     for (command, status, text) in expected {

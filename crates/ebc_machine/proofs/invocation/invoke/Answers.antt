@@ -1,12 +1,13 @@
-use Rattle.std.proofs.Common.{◌≡◌, inr, Some, None, ℕ, suc, ◌-◌, ◌<◌, sym, ap, ◌∙◌, subst, arith}
-use Rattle.mm_base.specs.Bus.{Answers}
-use Rattle.mm_base.specs.declared.bus.Served.TheVariants.{Status, Stop}
+use Rattle.std.proofs.Common.{◌≡◌, ◌⊎◌, inl, inr, Some, None, ℕ, suc, ◌-◌, ◌<◌, sym, ap, ◌∙◌, subst, arith}
+use Rattle.mm_base.specs.Bus.{Answers, IsRefusal}
+use Rattle.mm_base.specs.declared.bus.Served.{Served}
+use Rattle.mm_base.specs.declared.bus.Served.TheVariants.{Status, Stop, NoMemory}
 use Rattle.ebc_machine.specs.declared.regs.Regs.{Regs}
 use Rattle.ebc_machine.specs.declared.turn.Progress.{Progress}
 use Rattle.ebc_machine.specs.Operands.{at_address}
 use Rattle.ebc_machine.specs.Told.{IsNumbered}
 use Rattle.ebc_machine.specs.Invocation.{Call, turns, invoked}
-use Rattle.ebc_machine.proofs.InvokeLemmas.{begun, not_begun, out_of_fuel, next_turn, call_turn, return_turn, denied_turn, fault_turn, was_answered, status_turn, stop_turn}
+use Rattle.ebc_machine.proofs.InvokeLemmas.{begun, not_begun, out_of_fuel, next_turn, call_turn, return_turn, denied_turn, fault_turn, was_answered, status_turn, stop_turn, want_turn}
 use Rattle.ebc_machine.proofs.invocation.invoke.Goals as goal
 
 one_more : (left : ℕ) → 0 < left → left ≡ suc (left - 1)
@@ -49,7 +50,7 @@ loop-left-preserved g c =
     c.in-Service.next c.loop-left.left left (one_more c.loop-left.left c.loop-left-test.true)
     c.in-Service.ensures c.loop-left.invariant in
     let some : left ≡ suc (left - 1) = let h = c.if-left-eq0.false in omega arith in
-    let answered = was_answered (m.serves c.turn.new.bus c.in-Service.number c.get.result) c.service.result
+    let answered = was_answered g.B.Bus.may_refuse (m.serves c.turn.new.bus c.in-Service.number c.get.result) c.service.result
     (Status c.in-Status.status) c.service.new.self c.service.ensures c.in-Status.is (λ none. none) in
     let by_stack = subst
     (λ (stack : ℕ). Answers (m.serves c.turn.new.bus c.in-Service.number stack) (Status c.in-Status.status) c.service.new.self)
@@ -67,13 +68,36 @@ returns-in-Stop g c =
     c.in-Service.next c.loop-left.left left (one_more c.loop-left.left c.loop-left-test.true)
     c.in-Service.ensures c.loop-left.invariant in
     let some : left ≡ suc (left - 1) = let h = c.if-left-eq0.false in omega arith in
-    let answered = was_answered (m.serves c.turn.new.bus c.in-Service.number c.get.result) c.service.result
+    let answered = was_answered g.B.Bus.may_refuse (m.serves c.turn.new.bus c.in-Service.number c.get.result) c.service.result
     (Stop c.in-Stop.denial) c.service.new.self c.service.ensures c.in-Stop.is (λ none. none) in
     let by_stack = subst
     (λ (stack : ℕ). Answers (m.serves c.turn.new.bus c.in-Service.number stack) (Stop c.in-Stop.denial) c.service.new.self)
     c.get.ensures answered in
     inr (stop_turn m whole c.turn.new.regs c.turn.new.bus c.service.new.self c.in-Service.number c.in-Service.next
     c.in-Stop.denial left (left - 1) some by_stack held)
+
+pub returns-in-NoMemory : goal.returns-in-NoMemory
+returns-in-NoMemory g c =
+    let m = g.B.Bus.meaning in
+    let whole = invoked m c.args.fuel c.args.regs.now c.args.bus.now in
+    let left = c.loop-left.left - 1 in
+    let held = call_turn m whole c.loop-left.regs c.turn.new.regs c.loop-left.bus c.turn.new.bus c.in-Service.number
+    c.in-Service.next c.loop-left.left left (one_more c.loop-left.left c.loop-left-test.true)
+    c.in-Service.ensures c.loop-left.invariant in
+    let some : left ≡ suc (left - 1) = let h = c.if-left-eq0.false in omega arith in
+    let stack = c.get.result in
+    let told = subst
+    (λ (s : Served). IsRefusal g.B.Bus.may_refuse s ⊎ Answers (m.serves c.turn.new.bus c.in-Service.number stack) s c.service.new.self)
+    c.in-NoMemory.is c.service.ensures in
+    elim told [
+      | inl refused ↦ inl refused
+      | inr answered ↦
+          inr (want_turn m whole c.turn.new.regs c.turn.new.bus c.service.new.self c.in-Service.number c.in-Service.next
+          c.in-NoMemory.refused left (left - 1) some
+          (subst
+          (λ (stack : ℕ). Answers (m.serves c.turn.new.bus c.in-Service.number stack) (NoMemory c.in-NoMemory.refused) c.service.new.self)
+          c.get.ensures answered) held)
+    ]
 
 pub returns-in-Returned : goal.returns-in-Returned
 returns-in-Returned g c =

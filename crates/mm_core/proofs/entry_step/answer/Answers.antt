@@ -2,8 +2,8 @@ use Rattle.std.proofs.Common.{◌≡◌, ◌∙◌, sym, ap, length, true, inl, 
 use Rattle.mm_base.specs.declared.entry.Shape.{Shape}
 use Rattle.mm_core.specs.HandlerChain.{invocations_of}
 use Rattle.mm_core.specs.MachineLemmas.{is_addressed}
-use Rattle.mm_core.specs.StepInside.{chain_in, status_in, reply_in}
-use Rattle.mm_core.proofs.StepLemmas.{is_refused, refused_chain, refused_buffer}
+use Rattle.mm_core.specs.StepInside.{after_chain, chain_in, status_in, reply_in}
+use Rattle.mm_core.proofs.StepLemmas.{is_refused, refused_chain, refused_buffer, refused_core}
 use Rattle.mm_core.proofs.StepLemmas.{bad_length_status, bad_header_status, no_handler_status}
 use Rattle.mm_core.proofs.entry_step.answer.Goals as goal
 
@@ -28,6 +28,7 @@ returns-in-NoHandler c =
       status = no_handler_status core request _ ∙ ap (status_in core request) (sym c.in-NoHandler.is);
       reply = refused_buffer core request c.args.shape c.args.buffer.now refused c.requires.buffer;
       chain = c.requires.chain ∙ ap invocations_of (sym none);
+      core = refused_core core request c.args.shape refused;
       blanks = omega (arith, ap length none);
     }
 
@@ -46,6 +47,7 @@ returns-in-BadLength c =
           ];
       reply = refused_buffer core request c.args.shape c.args.buffer.now refused c.requires.buffer;
       chain = c.requires.chain ∙ ap invocations_of (sym none);
+      core = refused_core core request c.args.shape refused;
       blanks = omega (arith, ap length none);
     }
 
@@ -57,6 +59,7 @@ returns-in-Dispatched c =
     record {
       status = c.dispatch.ensures.status ∙ ap (status_in core request) is;
       reply = c.dispatch.ensures.reply ∙ ap (λ (s : Shape). record c.args.buffer.now { front = reply_in core request s }) is;
+      core = c.dispatch.ensures.core ∙ ap (after_chain core request) is;
       chain = c.dispatch.ensures.chain ∙ ap (λ (s : Shape). invocations_of (chain_in core request s)) is;
       blanks = omega (arith, c.dispatch.ensures.blanks, ap (λ (s : Shape). length (chain_in core request s)) is);
     }

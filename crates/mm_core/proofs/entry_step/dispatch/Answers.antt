@@ -5,7 +5,7 @@ use Rattle.mmi_registry.specs.ChainLaws.{result_from}
 use Rattle.mm_core.specs.ChainInside.{managed}
 use Rattle.mm_core.specs.HandlerChain.{invocations_of, statuses_of}
 use Rattle.mm_core.specs.StepInside.{chain_in}
-use Rattle.mm_core.proofs.StepLemmas.{length-chain, runs_are, status_is, opened_message, dispatched_buffer}
+use Rattle.mm_core.proofs.StepLemmas.{length-chain, runs_are, status_is, opened_message, dispatched_buffer, dispatched_core}
 use Rattle.mm_core.proofs.entry_step.dispatch.Goals as goal
 
 pub split_request-requires : goal.split_request-requires
@@ -52,5 +52,6 @@ returns c =
           ap (λ r. r.items) c.manage-result.ensures.invocations
           ∙ ap (λ xs. xs ++ invocations_of (managed core (Some guid) request.saved c.open.new.self.message)) c.requires.chain
           ∙ ap invocations_of runs;
+      core = dispatched_core core request guid c.manage-result.new.core c.open.new.self.message message c.manage-result.ensures.core;
       blanks = omega (arith, c.manage-result.ensures.blanks, ap length runs);
     }

@@ -1,7 +1,7 @@
 use Rattle.std.proofs.Common.{◌≡◌, ◌∙◌, length, ap, arith}
 use Rattle.mm_base.specs.declared.entry.Entry.{Entry}
 use Rattle.mm_core.specs.EntryStep.{entry_step}
-use Rattle.mm_core.proofs.StepLemmas.{core_step-stays, core_step-outcome}
+use Rattle.mm_core.proofs.StepLemmas.{core_step-left, core_step-outcome}
 use Rattle.mm_core.proofs.machine_core.CoreMachine.step.Goals as goal
 
 pub outcome_of-outcome-requires : goal.outcome_of-outcome-requires
@@ -26,9 +26,12 @@ returns c =
     record {
       request = ap (λ p. p.entry.request) c.finish.ensures ∙ ap (λ p. p.entry.request) left;
       outcome =
-          ap (λ p. p.entry.outcome) c.finish.ensures ∙ c.outcome_of-outcome.ensures
+          ap (λ p. p.entry.outcome) c.finish.ensures ∙ c.outcome_of-outcome.ensures.outcome
           ∙ ap (λ (e : Entry). (entry_step core.site core.live e.request).0) entry
           ∙ core_step-outcome core c.args.prepared.now.entry.request;
-      after = core_step-stays core c.args.prepared.now.entry.request;
+      after =
+          c.outcome_of-outcome.ensures.core
+          ∙ ap (λ (e : Entry). record core { live = (entry_step core.site core.live e.request).1 }) entry
+          ∙ core_step-left core c.args.prepared.now.entry.request;
       second = ap (λ p. p.second) c.finish.ensures ∙ ap (λ p. p.second) left;
     }
