@@ -1,5 +1,5 @@
 //! An invocation from its frame on.
-ghost use Rattle.std.specs.Prelude.{◌≡◌, ◌⊎◌, ◌≤◌};
+ghost use Rattle.std.specs.Prelude.{◌⊎◌, ◌≤◌};
 ghost use Rattle.ebc_machine.specs.Invocation.{entered, IsRefusal};
 ghost use Rattle.mm_base.specs.Bus.{Answers};
 ghost use Rattle.domain_runs.specs.Runs.{ending};

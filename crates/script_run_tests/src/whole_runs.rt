@@ -279,7 +279,10 @@ const NO_FORMS: &[&[&str]] = &[
     &["boot"],
     &["boot", "V", "more"],
     &["Boot", "V"],
-    &["serve", "V", "S"],
+    &["serve"],
+    &["serve", "V"],
+    &["serve", "V", "S", "more"],
+    &["Serve", "V", "S"],
     &["V"],
     &["", ""],
 ];

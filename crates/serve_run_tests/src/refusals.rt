@@ -15,8 +15,10 @@ fn is_cut_refused(alloc: Global) -> Result<bool, NoMemory> {
         at: 32,
         kind: BadKind::Volume(VolumeKind::Length),
     };
-    let (cut, _) = volume.as_slice().split_at(447);
-    is_stopped_before_script(alloc, cut, status)
+    match volume.as_slice().split_last() {
+        Some((_, cut)) => is_stopped_before_script(alloc, cut, status),
+        None => Ok(false),
+    }
 }
 
 #[test]
