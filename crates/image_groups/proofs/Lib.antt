@@ -1,0 +1,4 @@
+pub mod DomainLemmas
+pub mod LiveLemmas
+pub mod MaskLemmas
+pub mod PlaceLemmas

@@ -4,3 +4,4 @@ pub mod Erasing
 pub mod Groups
 pub mod Laws
 pub mod Reach
+pub mod RunLaws
