@@ -216,14 +216,14 @@ module _ (group : Group) (site : Site) (placed : IsSite site) (facts : Facts gro
       by_verdict (Pass why) is = ap (λ (v : _). (Ok v, domain (erased work))) (is refl)
       by_verdict (Deny why) is = ap (λ (d : DomainState). (Err (denial why), d)) (denied_along (denial why) work)
 
-  fetched_along : (work : Work) (at n : ℕ) → fetched (domain (erased work)) at n ≡ along change (fetched (domain work) at n)
+  pub fetched_along : (work : Work) (at n : ℕ) → fetched (domain (erased work)) at n ≡ along change (fetched (domain work) at n)
   fetched_along work at n =
       answered_along (verdict_in (domain work) kinds.Memory at n rights.Execute) (verdict_in (domain (erased work)) kinds.Memory at n rights.Execute)
       (denial_of kinds.Memory rights.Execute at n) (bytes_at work.live at n ++ replicate (18 - n) 0) (bytes_at (erase group site work.live) at n ++ replicate (18 - n) 0) work
       (same_verdict work kinds.Memory at n rights.Execute)
       (λ pass. ap (λ (bytes : List ℕ). bytes ++ replicate (18 - n) 0) (bytes_seen work at n rights.Execute pass))
 
-  read_along : (work : Work) (at n : ℕ) → read_at (domain (erased work)) at n ≡ along change (read_at (domain work) at n)
+  pub read_along : (work : Work) (at n : ℕ) → read_at (domain (erased work)) at n ≡ along change (read_at (domain work) at n)
   read_along work at n =
       answered_along (verdict_in (domain work) kinds.Memory at n rights.Read) (verdict_in (domain (erased work)) kinds.Memory at n rights.Read)
       (denial_of kinds.Memory rights.Read at n) (number_of (bytes_at work.live at n)) (number_of (bytes_at (erase group site work.live) at n)) work
@@ -247,14 +247,14 @@ module _ (group : Group) (site : Site) (placed : IsSite site) (facts : Facts gro
       by_verdict (Deny why) is =
           ap (λ (d : DomainState). (Err (denial_of kinds.Memory rights.Write at n why), d)) (denied_along (denial_of kinds.Memory rights.Write at n why) work)
 
-  written_along : (work : Work) → IsWhole work.live → (at n value : ℕ)
+  pub written_along : (work : Work) → IsWhole work.live → (at n value : ℕ)
       → written_at (domain (erased work)) at n value ≡ along change (written_at (domain work) at n value)
   written_along work whole at n value =
       changed_along (write_verdict (domain work) kinds.Memory at n) (write_verdict (domain (erased work)) kinds.Memory at n) at n value work
       (same_limit work kinds.Memory at n)
       (λ pass. number_erased work whole kinds.Memory at n value (without_limit work kinds.Memory at n pass))
 
-  target_along : (work : Work) (at : ℕ) → target_at (domain (erased work)) at ≡ target_at (domain work) at
+  pub target_along : (work : Work) (at : ℕ) → target_at (domain (erased work)) at ≡ target_at (domain work) at
   target_along work at =
       ap (λ (v : Verdict). target_by (service_of site image at) ((at % 2 == 0) && passes v)) (same_verdict work kinds.Memory at 2 rights.Execute)
 
@@ -419,7 +419,7 @@ module _ (group : Group) (site : Site) (placed : IsSite site) (facts : Facts gro
           (λ arguments d. done (deed_of d.image (region_in d) service arguments) d) (arguments_agree (argument_count service) stack work)
           (λ arguments. done_along (deed_of image (region_in (domain work)) service arguments) work whole)
 
-  by_number_along : (number stack : ℕ) (work : Work) → IsWhole work.live
+  pub by_number_along : (number stack : ℕ) (work : Work) → IsWhole work.live
       → served_by_number number stack (domain (erased work)) ≡ along change (served_by_number number stack (domain work))
   by_number_along number stack work whole = of_found (slice_get all_services number)
     where
