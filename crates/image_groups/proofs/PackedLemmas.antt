@@ -16,7 +16,7 @@ use Rattle.supervisor_calls.specs.Domains.{DomainState, acted, acting_of, verdic
 use Rattle.supervisor_calls.specs.Services.{domain_meaning}
 use Rattle.supervisor_calls.specs.Tables.{Live, Site}
 use Rattle.supervisor_calls.proofs.CellLemmas.{passes_without_quota}
-use Rattle.domain_runs.proofs.KeptLemmas.{KeepsParts, calls_kept}
+use Rattle.image_groups.proofs.KeptLemmas.{KeepsParts, calls_kept}
 use Rattle.image_groups.proofs.DomainLemmas.{Work, packed}
 
 module _ (site : Site) (registry : RegistryState) (protocols : DbState) (pages : List Bool) (image : ℕ) (R : Live → Type 0) where

@@ -1,0 +1,2 @@
+//! Floor: core. It promises which groups of a core's images are closed. It never changes a core.
+#![tactic(auto)]
