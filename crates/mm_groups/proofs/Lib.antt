@@ -1,2 +1,4 @@
-pub mod MessageLemmas
+pub mod ChainLemmas
+pub mod EntryLemmas
 pub mod HandlerRunLemmas
+pub mod MessageLemmas
