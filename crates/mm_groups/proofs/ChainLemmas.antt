@@ -74,19 +74,19 @@ module _ (group : Group) (site : Site) (placed : IsSite site.supervised) (facts 
       by_stop true rest is = refl
       by_stop false rest is = ap (λ (r : List Invoked). left_run run ∷ r) is
 
-  invocations_same : (runs : List Invoked) → invocations_of (map left_run runs) ≡ invocations_of runs
+  pub invocations_same : (runs : List Invoked) → invocations_of (map left_run runs) ≡ invocations_of runs
   invocations_same [] = refl
   invocations_same (run ∷ runs) = ap (λ (rest : List Invocation). run.invocation ∷ rest) (invocations_same runs)
 
-  statuses_same : (runs : List Invoked) → statuses_of (map left_run runs) ≡ statuses_of runs
+  pub statuses_same : (runs : List Invoked) → statuses_of (map left_run runs) ≡ statuses_of runs
   statuses_same [] = refl
   statuses_same (run ∷ runs) = ap (λ (rest : List ℕ). status_of run.invocation.ended ∷ rest) (statuses_same runs)
 
-  message_same : (message : Message) (runs : List Invoked) → message_after message (map left_run runs) ≡ message_after message runs
+  pub message_same : (message : Message) (runs : List Invoked) → message_after message (map left_run runs) ≡ message_after message runs
   message_same message [] = refl
   message_same message (run ∷ runs) = message_same run.message runs
 
-  live_same : (live : Live) (runs : List Invoked) → live_after (left live) (map left_run runs) ≡ left (live_after live runs)
+  pub live_same : (live : Live) (runs : List Invoked) → live_after (left live) (map left_run runs) ≡ left (live_after live runs)
   live_same live [] = refl
   live_same live (run ∷ runs) = live_same run.live runs
 
