@@ -1,7 +1,7 @@
 -- The test of handlers two by two is exact: it comes out true where each GUID's handlers are all the group's, or none is.
-use Rattle.std.proofs.Common.{◌≡◌, ◌⊎◌, ◌↔◌, ℕ, Bool, true, false, List, [], ◌∷◌, Option, Some, None, refl, sym, ap, subst, ◌∙◌, inl, inr}
-use Rattle.std.specs.Prelude.{◌&&◌, ◌||◌, not, cond, filter, bytes_eq, slice_index_or, All}
-use Rattle.std.specs.List.{list_all, AllPass}
+use Rattle.std.proofs.Common.{◌≡◌, ◌⊎◌, ◌↔◌, Bool, true, false, List, [], ◌∷◌, Option, Some, None, refl, sym, ap, ◌∙◌, inl, inr}
+use Rattle.std.specs.Prelude.{◌||◌, not, cond, filter, slice_index_or, All}
+use Rattle.std.specs.List.{list_all}
 use Rattle.std.specs.Option.{option_eq}
 use Rattle.std.proofs.lemmas.Bool.{and_parts, both_ways}
 use Rattle.std.proofs.lemmas.List.Elements.{All-cons, All-filter, All-head, All-nil, All-tail, All-weaker, filter_passes}
@@ -93,7 +93,7 @@ module _ (group : Group) where
         → First all ⊎ All (λ (handler : Handler). is_in_chain handler ≡ false) handlers
     first_or_none all [] e = inr (All-nil (λ (handler : Handler). is_in_chain handler ≡ false))
     first_or_none all (handler ∷ handlers) e =
-        let parts = and_parts (list_all (is_alike_with group handler) all) (list_all (λ (handler : Handler). list_all (is_alike_with group handler) all) handlers) e in
+        let parts = and_parts (list_all (is_alike_with group handler) all) _ e in
         step (is_in_chain handler) refl parts.0 (first_or_none all handlers parts.1)
       where
         step : (is : Bool) → is_in_chain handler ≡ is → list_all (is_alike_with group handler) all ≡ true

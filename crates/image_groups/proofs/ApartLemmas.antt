@@ -1,5 +1,5 @@
 -- The test at the ends is exact: it comes out true where no unit that an image outside may write is granted to the group.
-use Rattle.std.proofs.Common.{◌≡◌, ◌↔◌, ℕ, ◌<◌, Bool, true, false, List, [], ◌∷◌, length, refl, sym, ap, ◌∙◌}
+use Rattle.std.proofs.Common.{◌≡◌, ◌↔◌, ℕ, ◌<◌, Bool, true, false, List, [], ◌∷◌, length, refl, ap, ◌∙◌}
 use Rattle.std.specs.Prelude.{◌&&◌, ◌||◌, not}
 use Rattle.std.specs.List.{list_all}
 use Rattle.std.proofs.lemmas.Bool.{and_from, and_parts, not-true, not_from_false}
@@ -9,8 +9,8 @@ use Rattle.mm_base.specs.declared.access.Right.TheVariants.{Read, Write, Execute
 use Rattle.supervisor_calls.specs.Tables.{Site}
 use Rattle.image_groups.specs.ClosedInside.{is_apart, is_apart_at, is_written_outside}
 use Rattle.image_groups.specs.Ends.{ends_of, last_up_to}
-use Rattle.image_groups.specs.Groups.{Group, granted, some_image}
-use Rattle.image_groups.specs.Reach.{is_touched, reach}
+use Rattle.image_groups.specs.Groups.{Group, granted}
+use Rattle.image_groups.specs.Reach.{reach}
 use Rattle.image_groups.proofs.EndsLemmas.{at_last}
 use Rattle.image_groups.proofs.ReachLemmas.{image-from_some, some_image-from, some_image-same}
 use Rattle.image_groups.proofs.SameLemmas.{reach_changes_at_ends}

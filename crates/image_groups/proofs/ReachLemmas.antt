@@ -1,17 +1,14 @@
 -- What passes is within reach, unit by unit; and images that are there, one of which passes a test.
-use Rattle.std.proofs.Common.{◌≡◌, ◌≢◌, ℕ, zero, suc, ◌+◌, ◌<◌, ◌≤◌, Bool, true, false, length, List, [], ◌∷◌, refl, sym, ap, ◌∙◌, inl, inr, arith}
-use Rattle.std.specs.Prelude.{◌&&◌, ◌||◌}
+use Rattle.std.proofs.Common.{◌≡◌, ℕ, zero, suc, ◌+◌, ◌<◌, ◌≤◌, Bool, true, length, List, [], ◌∷◌, refl, ap, ◌∙◌, inl, inr, arith}
+use Rattle.std.specs.Prelude.{◌||◌}
 use Rattle.std.specs.List.{list_any, range_with_len}
-use Rattle.std.proofs.lemmas.Bool.{and_parts, and_from, cases_eq, or_cases, or_left, or_right}
-use Rattle.mm_base.specs.Range.{Has}
+use Rattle.std.proofs.lemmas.Bool.{and_from, cases_eq, or_cases, or_left, or_right}
 use Rattle.mm_base.specs.declared.access.Kind.{Kind}
-use Rattle.mm_base.specs.declared.access.Kind.TheVariants.{Saved}
 use Rattle.mm_base.specs.declared.access.Right.{Right}
 use Rattle.mm_base.specs.declared.access.Right.TheVariants.{Read, Write, Execute}
 use Rattle.secure_policy.specs.Laws.{passes}
-use Rattle.secure_policy.specs.Verdicts.{verdict_on, units_from}
+use Rattle.secure_policy.specs.Verdicts.{verdict_on}
 use Rattle.supervisor_calls.specs.Accesses.{decided}
-use Rattle.supervisor_calls.specs.Laws.{IsSite}
 use Rattle.supervisor_calls.specs.Tables.{Site}
 use Rattle.supervisor_calls.proofs.LawLemmas.{passes_at_each_unit}
 use Rattle.image_groups.specs.Groups.{Group, granted, is_register_granted, some_image}

@@ -1,11 +1,10 @@
 -- A verdict on one unit is the same at two units where no end lies past the first and up to the second.
-use Rattle.std.proofs.Common.{◌≡◌, ℕ, zero, suc, ◌+◌, ◌<◌, ◌≤◌, ◌^◌, Bool, true, false, List, [], ◌∷◌, ◌++◌, Option, Some, None, refl, sym, ap, ◌∙◌, arith}
-use Rattle.std.specs.Prelude.{◌&&◌, ◌||◌, not, nat_lt, nat_le, if◌then◌else◌, cond, filter, slice_get}
-use Rattle.std.specs.List.{list_all, list_any, flat_map}
-use Rattle.std.specs.Option.{option_map_or}
-use Rattle.std.proofs.lemmas.Bool.{and_parts, ltb-true, ltb-false}
+use Rattle.std.proofs.Common.{◌≡◌, ℕ, zero, suc, ◌+◌, ◌<◌, ◌≤◌, ◌^◌, Bool, true, false, List, [], ◌∷◌, ◌++◌, refl, sym, ap, ◌∙◌, arith}
+use Rattle.std.specs.Prelude.{◌&&◌, ◌||◌, nat_lt, if◌then◌else◌, cond, filter}
+use Rattle.std.specs.List.{list_any, flat_map}
+use Rattle.std.proofs.lemmas.Bool.{and_parts}
 use Rattle.std.proofs.lemmas.Bool.Decides.{nat_tests}
-use Rattle.image_table.specs.HomeRanges.{Home, grants, home_ranges, is_own}
+use Rattle.image_table.specs.HomeRanges.{Home, grants, home_ranges}
 use Rattle.image_table.specs.ImageTable.{is_home_at, name_at}
 use Rattle.image_table.specs.declared.placed_image.PlacedImage.{PlacedImage}
 use Rattle.mm_base.specs.Kinds.{same_kind}
@@ -26,7 +25,7 @@ use Rattle.secure_policy.specs.Places.{has_cell, place_of, place_of_bytes, place
 use Rattle.secure_policy.specs.Verdicts.{verdict_on, verdict_at, verdict_by_rules, is_for, is_given_by, units_from}
 use Rattle.secure_policy.specs.declared.place.Place.{Place}
 use Rattle.secure_policy.specs.declared.place.Place.TheVariants.{Nowhere, Mmram, LaneWindow, Cells}
-use Rattle.supervisor_calls.specs.Accesses.{decided, basis_of}
+use Rattle.supervisor_calls.specs.Accesses.{decided}
 use Rattle.supervisor_calls.specs.Tables.{Site}
 use Rattle.image_groups.specs.Ends.{ends_of, home_ends, last_up_to, range_ends, rule_ends, window_ends}
 use Rattle.image_groups.specs.Laws.{ReachChangesAtEnds}
@@ -37,7 +36,8 @@ use Rattle.image_groups.proofs.EndsLemmas.{IsClear, clear_parts, clear_past_last
 
 -- the place of bytes, by its four tests
 abbrev place_by : Bool → Bool → Bool → Bool → Place
-place_by past memory lanes device = if past then Nowhere else if memory then Mmram else if lanes then LaneWindow else if device then Cells else Nowhere
+place_by past memory lanes device =
+    if past then Nowhere else if memory then Mmram else if lanes then LaneWindow else if device then Cells else Nowhere
 
 -- a byte that lies in no window lies nowhere, wherever it ends
 without_past : (past memory lanes device : Bool)
@@ -79,13 +79,13 @@ below Msr unit some = let there = with_cell (has_cell Msr unit && true) some in 
 below Saved unit some = let there = with_cell (has_cell Saved unit && true) some in grind (arith, nat_tests, there)
 
 -- what a verdict looks at, in each place
-at_one_place : (place : Place) (home home' : Bool) (ruled ruled' : Verdict)
-    → (place ≡ Mmram → home ≡ home') → (place ≡ Cells → ruled ≡ ruled')
-    → verdict_at place home ruled ≡ verdict_at place home' ruled'
-at_one_place Nowhere home home' ruled ruled' homes rules = refl
-at_one_place Mmram home home' ruled ruled' homes rules = ap (λ (b : Bool). if b then Pass whys.Home else Deny whys.Mmram) (homes refl)
-at_one_place LaneWindow home home' ruled ruled' homes rules = refl
-at_one_place Cells home home' ruled ruled' homes rules = rules refl
+at_one_place : (place : Place) (home other_home : Bool) (ruled other_ruled : Verdict)
+    → (place ≡ Mmram → home ≡ other_home) → (place ≡ Cells → ruled ≡ other_ruled)
+    → verdict_at place home ruled ≡ verdict_at place other_home other_ruled
+at_one_place Nowhere home other_home ruled other_ruled homes rules = refl
+at_one_place Mmram home other_home ruled other_ruled homes rules = ap (λ (b : Bool). if b then Pass whys.Home else Deny whys.Mmram) (homes refl)
+at_one_place LaneWindow home other_home ruled other_ruled homes rules = refl
+at_one_place Cells home other_home ruled other_ruled homes rules = rules refl
 
 module _ (low high : ℕ) (up : low ≤ high) where
   -- ---- places of two units
@@ -155,12 +155,12 @@ module _ (low high : ℕ) (up : low ≤ high) where
     -- ---- rules
 
     -- a rule of another kind says nothing, and one of the kind says the same of both
-    rule_step : (k : ℕ) (is owners given shares shares' covers covers' : Bool) (later later' : Verdict)
-        → (is ≡ true → shares ≡ shares') → (is ≡ true → covers ≡ covers') → later ≡ later'
+    rule_step : (k : ℕ) (is owners given shares other_shares covers other_covers : Bool) (later other_later : Verdict)
+        → (is ≡ true → shares ≡ other_shares) → (is ≡ true → covers ≡ other_covers) → later ≡ other_later
         → (if is && owners && shares then (if given && covers then Pass (whys.Rule k) else Deny (whys.Rule k)) else later)
-        ≡ (if is && owners && shares' then (if given && covers' then Pass (whys.Rule k) else Deny (whys.Rule k)) else later')
-    rule_step k false owners given shares shares' covers covers' later later' sharing covering rest = rest
-    rule_step k true owners given shares shares' covers covers' later later' sharing covering rest =
+        ≡ (if is && owners && other_shares then (if given && other_covers then Pass (whys.Rule k) else Deny (whys.Rule k)) else other_later)
+    rule_step k false owners given shares other_shares covers other_covers later other_later sharing covering rest = rest
+    rule_step k true owners given shares other_shares covers other_covers later other_later sharing covering rest =
         λ i. if owners && sharing refl i then (if given && covering refl i then Pass (whys.Rule k) else Deny (whys.Rule k)) else rest i
 
     -- the ends of one rule's range, where it is of the kind, and those of the others
@@ -222,6 +222,12 @@ module _ (low high : ℕ) (up : low ≤ high) where
   of_bytes Msr range e = absurd (no_memory _ e)
   of_bytes Saved range e = absurd (no_memory _ e)
 
+  mmram_somewhere : (place : Place) → place ≡ Mmram → place ≡ Nowhere → ⊥
+  mmram_somewhere place is none = let e : Mmram ≡ Nowhere = sym is ∙ none in cc
+
+  cells_somewhere : (place : Place) → place ≡ Cells → place ≡ Nowhere → ⊥
+  cells_somewhere place is none = let e : Cells ≡ Nowhere = sym is ∙ none in cc
+
   pub decided_same : (site : Site) (image : ℕ) (kind : Kind) (right : Right) → IsClear low high (ends_of kind site)
       → decided site image kind low 1 right 0 ≡ decided site image kind high 1 right 0
   unfolding decided verdict_on
@@ -229,18 +235,14 @@ module _ (low high : ℕ) (up : low ≤ high) where
       let first = clear_parts low high (window_ends kind ++ rule_ends kind site.policy.rules) _ clear in
       let second = clear_parts low high (window_ends kind) (rule_ends kind site.policy.rules) first.0 in
       let there : Place = place_of kind (units_from high 1) in
-      let ruled : ℕ → Verdict = λ unit. verdict_by_rules site.policy.rules 0 (name_at site.images image) kind (units_from unit 1) right in
+      let name : Guid = name_at site.images image in
+      let ruled : ℕ → Verdict = λ unit. verdict_by_rules site.policy.rules 0 name kind (units_from unit 1) right in
       ap (λ (place : Place). verdict_at place (is_home_at site.images image (units_from low 1) right) (ruled low)) (place_same kind second.0)
       ∙ at_one_place there _ _ (ruled low) (ruled high)
-      (λ e. homes_same (below kind high (λ none. neither (sym e ∙ none))) right site.images image
+      (λ e.
+      homes_same (below kind high (mmram_somewhere there e)) right site.images image
       (homes_clear kind (of_bytes kind (units_from high 1) e) site.images first.1))
-      (λ e. rules_same (below kind high (λ none. neither_cells (sym e ∙ none))) kind (name_at site.images image) right site.policy.rules 0 second.1)
-    where
-      neither : Mmram ≡ Nowhere → ⊥
-      neither e = cc
-
-      neither_cells : Cells ≡ Nowhere → ⊥
-      neither_cells e = cc
+      (λ e. rules_same (below kind high (cells_somewhere there e)) kind name right site.policy.rules 0 second.1)
 
 pub reach_changes_at_ends : ReachChangesAtEnds
 unfolding reach

@@ -18,7 +18,7 @@ use Rattle.supervisor_calls.specs.Tables.{Site}
 use Rattle.image_groups.specs.Ends.{ends_of, last_up_to}
 use Rattle.image_groups.specs.Erasing.{projected_registers, trapped_in}
 use Rattle.image_groups.specs.Groups.{Group, IsClosed, granted, is_register_granted}
-use Rattle.image_groups.specs.Reach.{reach, is_register_read}
+use Rattle.image_groups.specs.Reach.{reach}
 
 -- Where an access passes, each of its units is within the image's reach for that right.
 abbrev pub PassesWithinReach : Type 0
