@@ -104,7 +104,7 @@ module _ (site : Site) (placed : IsSite site) (registry : RegistryState) (protoc
       (bytes_where (domain_of work) placed at n (trapped_of (domain_of work)) rights.Write pass)
 
 module _ (group : Group) (site : Site) (placed : IsSite site) (facts : Facts group site) (registry : RegistryState) (protocols : DbState)
-    (pages : List Bool) (image : ℕ) (mine : group image ≡ true) where
+    (pages : List Bool) (image : ℕ) (there : image < length site.images) (mine : group image ≡ true) where
   abbrev domain : Work → DomainState
   domain = packed site registry protocols pages image
 
@@ -132,7 +132,7 @@ module _ (group : Group) (site : Site) (placed : IsSite site) (facts : Facts gro
 
   granted_all : (work : Work) (kind : Kind) (at n : ℕ) (right : Right) → kind ≢ kinds.Saved
       → passes (verdict_in (domain work) kind at n right) ≡ true → AreGranted group site kind at n
-  granted_all work kind at n right other pass unit has = facts.within image kind at n right (trapped_of (domain work)) unit mine other pass has
+  granted_all work kind at n right other pass unit has = facts.within image kind at n right (trapped_of (domain work)) unit there mine other pass has
 
   -- ---- what is read
 
@@ -154,7 +154,7 @@ module _ (group : Group) (site : Site) (placed : IsSite site) (facts : Facts gro
       (granted_all work kinds.Msr at n rights.Read (λ e. cc) pass)
   number_same work kinds.Saved at n pass =
       get_or-masked 0 (λ register. _) work.saved.0 at 0
-      (facts.within_registers image at n (trapped_in work.saved) at mine pass
+      (facts.within_registers image at n (trapped_in work.saved) at there mine pass
       (record { from = omega arith; to = omega (arith, some work kinds.Saved at n rights.Read pass) }))
 
   -- ---- what is written

@@ -1,5 +1,5 @@
 -- An invocation of an image of a closed group is the same on what is left after erasing; one of an image outside changes nothing of that.
-use Rattle.std.proofs.Common.{◌≡◌, ◌≢◌, ◌⊎◌, ℕ, ◌≤◌, Bool, true, false, List, [], length, set, replicate, refl, sym, ap, ◌∙◌, subst, arith}
+use Rattle.std.proofs.Common.{◌≡◌, ◌≢◌, ◌⊎◌, ℕ, ◌≤◌, ◌<◌, Bool, true, false, List, [], length, set, replicate, refl, sym, ap, ◌∙◌, subst, arith}
 use Rattle.ebc_machine.specs.Invocation.{entered}
 use Rattle.ebc_machine.specs.Laws.{Keeps, mapped}
 use Rattle.mm_base.specs.Frames.{zeros}
@@ -45,7 +45,7 @@ module _ (site : Site) (placed : IsSite site) (registry : RegistryState) (protoc
   stays_whole = at_work site registry protocols pages image IsWhole whole_kept
 
 module _ (group : Group) (site : Site) (placed : IsSite site) (facts : Facts group site) (registry : RegistryState) (protocols : DbState)
-    (pages : List Bool) (image : ℕ) where
+    (pages : List Bool) (image : ℕ) (there : image < length site.images) where
   abbrev domain : Work → DomainState
   domain = packed site registry protocols pages image
 
@@ -58,22 +58,22 @@ module _ (group : Group) (site : Site) (placed : IsSite site) (facts : Facts gro
     carries : CarriesWhere AtWork (erased_in group site) domain_meaning domain_meaning
     carries = record {
       fetches = λ d at n p. subst (λ x. fetched (erased_in group site x) at n ≡ along (erased_in group site) (fetched x at n)) (sym p.1.0)
-          (fetched_along group site placed facts registry protocols pages image mine p.0 at n);
+          (fetched_along group site placed facts registry protocols pages image there mine p.0 at n);
       reads = λ d at n p. subst (λ x. read_at (erased_in group site x) at n ≡ along (erased_in group site) (read_at x at n)) (sym p.1.0)
-          (read_along group site placed facts registry protocols pages image mine p.0 at n);
+          (read_along group site placed facts registry protocols pages image there mine p.0 at n);
       writes = λ d at n value p. by_width d at n value p;
       targets = λ d at p. subst (λ x. target_at (erased_in group site x) at ≡ target_at x at) (sym p.1.0)
-          (target_along group site placed facts registry protocols pages image mine p.0 at);
+          (target_along group site placed facts registry protocols pages image there mine p.0 at);
       serves = λ d number stack p.
           subst (λ x. served_by_number number stack (erased_in group site x) ≡ along (erased_in group site) (served_by_number number stack x)) (sym p.1.0)
-          (by_number_along group site placed facts registry protocols pages image mine number stack p.0 p.1.1);
+          (by_number_along group site placed facts registry protocols pages image there mine number stack p.0 p.1.1);
     }
       where
         by_width : (d : DomainState) (at n value : ℕ) → AtWork d
             → written_at (erased_in group site d) at n value ≡ along (erased_in group site) (written_at d at n value)
         by_width d at n value p =
             subst (λ x. written_at (erased_in group site x) at n value ≡ along (erased_in group site) (written_at x at n value)) (sym p.1.0)
-            (written_along group site placed facts registry protocols pages image mine p.0 p.1.1 at n value)
+            (written_along group site placed facts registry protocols pages image there mine p.0 p.1.1 at n value)
 
     -- an invocation, its frame included, from what is left after erasing
     pub run_inside : (fuel stack address : ℕ) (arguments : List ℕ) (work : Work) → IsWhole work.live
@@ -88,7 +88,7 @@ module _ (group : Group) (site : Site) (placed : IsSite site) (facts : Facts gro
   module _ (other : group image ≡ false) where
     spared : (work : Work) (kind : Kind) (at n : ℕ) → kind ≢ kinds.Saved
         → passes (verdict_in (domain work) kind at n rights.Write) ≡ true → AreSpared group site kind at n
-    spared work kind at n cell pass unit has = facts.apart image kind at n (trapped_of (domain work)) unit other cell pass has
+    spared work kind at n cell pass unit has = facts.apart image kind at n (trapped_of (domain work)) unit there other cell pass has
 
     some : (work : Work) (kind : Kind) (at n : ℕ) → passes (verdict_in (domain work) kind at n rights.Write) ≡ true → 1 ≤ n
     some work kind at n pass = some_unit site image rights.Write (trapped_of (domain work)) kind at n pass

@@ -1,4 +1,9 @@
+pub mod AlikeLemmas
+pub mod ApartLemmas
+pub mod ClosedLemmas
 pub mod DomainLemmas
+pub mod EndsLemmas
+pub mod FactLemmas
 pub mod GroupRunLemmas
 pub mod InvocationLemmas
 pub mod KeptLemmas
@@ -6,3 +11,5 @@ pub mod LiveLemmas
 pub mod MaskLemmas
 pub mod PackedLemmas
 pub mod PlaceLemmas
+pub mod ReachLemmas
+pub mod SameLemmas

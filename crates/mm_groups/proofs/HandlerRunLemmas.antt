@@ -2,6 +2,7 @@
 use Rattle.std.proofs.Common.{◌≡◌, ◌≢◌, ◌⊎◌, ℕ, ◌+◌, ◌*◌, ◌-◌, ◌≤◌, ◌<◌, Bool, true, false, ◌||◌, List, [], ◌∷◌, length, Option, Some, None, refl, sym, ap, ◌∙◌, subst, arith}
 use Rattle.std.specs.List.{slice_get}
 use Rattle.std.proofs.lemmas.Bool.Decides.{nat_tests}
+use Rattle.std.proofs.lemmas.Option.{slice_get_within}
 use Rattle.domain_runs.proofs.RunLemmas.{run_keeps}
 use Rattle.domain_runs.specs.Runs.{ending}
 use Rattle.ebc_machine.specs.Invocation.{entered}
@@ -58,6 +59,9 @@ module _ (group : Group) (site : Site) (placed : IsSite site.supervised) (facts 
   -- ---- the communicate page of an image
 
   module _ (number : ℕ) (image : PlacedImage) (is : slice_get site.supervised.images number ≡ Some image) where
+    there : number < length site.supervised.images
+    there = slice_get_within site.supervised.images number image is
+
     abbrev base : ℕ
     base = (communicate_page_of image.region).base
 
@@ -90,12 +94,12 @@ module _ (group : Group) (site : Site) (placed : IsSite site.supervised) (facts 
     pub page_granted : group number ≡ true → (k : ℕ) → page_place image.region ≤ k → k < page_place image.region + 4096
         → granted group site.supervised kinds.Memory (0x80000000 + k) ≡ true
     page_granted mine =
-        by_place true (λ unit has. facts.within number kinds.Memory base 4096 rights.Write 0 unit mine (λ e. cc) page_passes has)
+        by_place true (λ unit has. facts.within number kinds.Memory base 4096 rights.Write 0 unit there mine (λ e. cc) page_passes has)
 
     pub page_spared : group number ≡ false → (k : ℕ) → page_place image.region ≤ k → k < page_place image.region + 4096
         → granted group site.supervised kinds.Memory (0x80000000 + k) ≡ false
     page_spared other =
-        by_place false (λ unit has. facts.apart number kinds.Memory base 4096 0 unit other (λ e. cc) page_passes has)
+        by_place false (λ unit has. facts.apart number kinds.Memory base 4096 0 unit there other (λ e. cc) page_passes has)
 
   -- ---- code
 
@@ -152,7 +156,7 @@ module _ (group : Group) (site : Site) (placed : IsSite site.supervised) (facts 
           saved = projected_registers group site.supervised saved;
           records = record { denials = []; writes = [] };
         })))) mask
-        ∙ run_inside group site.supervised placed facts (record { handlers = site.handlers; next = site.next_number; frozen = true }) site.interfaces site.pages number mine
+        ∙ run_inside group site.supervised placed facts (record { handlers = site.handlers; next = site.next_number; frozen = true }) site.interfaces site.pages number (there number image is) mine
         site.supervised.policy.fuel ((stack_of image.region).base + (stack_of image.region).length) address
         ((handler.number + 1) ∷ 0 ∷ addresses handler.guid image.region) (opening saved image.region message live) filled_whole
 
@@ -175,7 +179,7 @@ module _ (group : Group) (site : Site) (placed : IsSite site.supervised) (facts 
     pub code_left : group number ≡ false → erased (left_by handler image.region message (ran saved live)).live ≡ erased live
     unfolding code_run
     code_left other =
-        let p = run_outside group site.supervised placed facts (record { handlers = site.handlers; next = site.next_number; frozen = true }) site.interfaces site.pages number other
+        let p = run_outside group site.supervised placed facts (record { handlers = site.handlers; next = site.next_number; frozen = true }) site.interfaces site.pages number (there number image is) other
         site.supervised.policy.fuel ((stack_of image.region).base + (stack_of image.region).length) address
         ((handler.number + 1) ∷ 0 ∷ addresses handler.guid image.region) (opening saved image.region message live) filled_whole in
         ap (λ (d : DomainState). erased d.tables.live) p.1.0
