@@ -1,16 +1,18 @@
--- Laws of one entry for a closed group.
-use Rattle.std.specs.Prelude.{◌≡◌, ℕ, Some, slice_get}
+-- Laws of entries for a closed group, of one and of lists.
+use Rattle.std.specs.Prelude.{◌≡◌, ℕ, List, map, Some, slice_get}
 use Rattle.image_groups.specs.Erasing.{erase}
 use Rattle.image_groups.specs.Groups.{Group, IsClosed}
 use Rattle.image_groups.specs.RunLaws.{IsWhole}
 use Rattle.image_table.specs.declared.placed_image.PlacedImage.{PlacedImage}
+use Rattle.mm_base.specs.Replay.{outcomes}
+use Rattle.mm_base.specs.declared.entry.Outcome.{Outcome}
 use Rattle.mm_base.specs.declared.entry.Request.{Request}
 use Rattle.mm_core.specs.CoreState.{CoreState, Site}
 use Rattle.mm_core.specs.EntryStep.{core_step}
 use Rattle.mmi_registry.specs.Registry.{IsNumbered}
 use Rattle.supervisor_calls.specs.Laws.{IsSite}
 use Rattle.supervisor_calls.specs.Tables.{Live}
-use Rattle.mm_groups.specs.Share.{erased_core, projected, share_of}
+use Rattle.mm_groups.specs.Share.{Share, erased_core, projected, share_of}
 
 -- What a core keeps that a boot left or a script made: its images lie where they may, the numbers of its handlers rise, and where there is an
 -- image, memory and cells are whole.
@@ -42,3 +44,16 @@ EntriesShareAlike =
     (group : Group) (core other : CoreState) (request asked : Request)
     → IsSound core → IsSound other → IsClosedIn group core.site
     → AreAlike group core other request asked → ShareAlike group core other request asked
+
+-- the shares of outcomes, in order
+abbrev pub shares_of : Group → Site → List Outcome → List Share
+shares_of group site all = map (share_of group site) all
+
+-- A closed group gets of any list of requests what the core gives from where everything that isn't granted to the group is erased, on what the
+-- group may learn of each request.
+abbrev pub SharesStandAlone : Type 0
+SharesStandAlone =
+    (group : Group) (core : CoreState) (requests : List Request)
+    → IsSound core → IsClosedIn group core.site
+    → shares_of group core.site (outcomes core_step core requests)
+    ≡ shares_of group core.site (outcomes core_step (erased_core group core) (map (projected group core.site) requests))

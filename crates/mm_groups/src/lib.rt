@@ -1,2 +1,4 @@
 //! Floor: core. It promises which groups of a core's images are closed. It never changes a core.
 #![tactic(auto)]
+
+pub mod laws;
