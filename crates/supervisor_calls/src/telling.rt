@@ -82,6 +82,15 @@ impl<F: Frames> Tables<F> {
         self.memory.read(at, n)
     }
 
+    /// How many home ranges an image has. It costs one step.
+    pub fn home_ranges(&self, image: u32) -> u32
+        requires { image < length self.now.site.images }
+        ensures value { result ≡ length (home_ranges_at self.now.site.images image) }
+        ensures most { length (home_ranges_at self.now.site.images image) ≤ 33554438 }
+    {
+        self.images.ranges(image)
+    }
+
     /// The home range at place `k` of an image by rising address, with the bits of its rights (1 for read, 2 for write, 4 for
     /// execute); None past the last. It costs a bounded number of steps.
     pub fn home_range(&self, image: u32, k: u32) -> Option<(Range, u8)>
