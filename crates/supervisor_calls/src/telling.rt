@@ -4,6 +4,7 @@ ghost use Rattle.std.specs.List.{list_any};
 ghost use Rattle.std.specs.Option.{option_map};
 ghost use Rattle.image_table.specs.ImageTable.{home_ranges_at, name_at};
 ghost use Rattle.mm_base.specs.Numbers.{number_in};
+ghost use Rattle.mm_base.specs.Policies.{IsLawfulPolicy};
 ghost use Rattle.mm_memory.specs.Flat.{AreLive};
 ghost use Rattle.mmi_registry.specs.Handlers.{chain_of};
 ghost use Rattle.protocol_db.specs.Rows.{AreApart, is_of_guid, owned_by};
@@ -102,7 +103,8 @@ impl<F: Frames> Tables<F> {
 
     /// The policy.
     pub fn policy(&self) -> &Policy
-        ensures { result.now ≡ self.now.site.policy }
+        ensures value { result.now ≡ self.now.site.policy }
+        ensures lawful { IsLawfulPolicy result.now }
     {
         self.guard.policy()
     }
