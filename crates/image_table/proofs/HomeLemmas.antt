@@ -1,6 +1,6 @@
 -- Home ranges by their places, and which of them can cover a range.
-use Rattle.std.proofs.Common.{◌≡◌, ℕ, zero, suc, ◌+◌, ◌-◌, ◌<◌, ◌≤◌, Bool, true, false, List, [], ◌∷◌, ◌++◌, length, get_or, map, take, drop}
-use Rattle.std.proofs.Common.{refl, sym, ap, ◌∙◌, subst, arith, Option, Some}
+use Rattle.std.proofs.Common.{◌≡◌, ℕ, zero, suc, ◌+◌, ◌-◌, ◌*◌, ◌<◌, ◌≤◌, Bool, true, false, List, [], ◌∷◌, ◌++◌, length, get_or, map, take, drop}
+use Rattle.std.proofs.Common.{refl, sym, ap, ◌∙◌, subst, arith, length-append, Option, Some}
 use Rattle.std.specs.Prelude.{◌&&◌, ◌||◌, nat_le, slice_get, slice_range}
 use Rattle.std.specs.List.{All, AllPairs, list_any}
 use Rattle.std.specs.List.Sorted.{IsNonDecreasingBy, IsPartitionPoint}
@@ -11,12 +11,15 @@ use Rattle.std.proofs.lemmas.List.{get_or-take, take-append-drop, get_or-drop, l
 use Rattle.std.proofs.lemmas.List.Folds.{drop_split, list_any-append, list_any_none}
 use Rattle.std.proofs.lemmas.List.Sorted.{IsNonDecreasingBy-from_all_adjacent}
 use Rattle.std.proofs.lemmas.Option.{slice_get-get_or, slice_get-map}
+use Rattle.mm_base.specs.Platform.{mmram}
 use Rattle.mm_base.specs.Range.{encloses}
+use Rattle.mm_base.specs.Regions.{region_of}
 use Rattle.mm_base.specs.Rights.{have_right}
 use Rattle.mm_base.specs.declared.access.Right.{Right}
 use Rattle.mm_base.specs.declared.image.Part.{Part}
 use Rattle.mm_base.specs.declared.range.Range.{Range}
-use Rattle.image_table.specs.HomeRanges.{Home, grants, home_ranges, page_homes, section_home}
+use Rattle.image_table.specs.HomeRanges.{Home, IsPlaced, grants, home_ranges, page_homes, section_home}
+use Rattle.image_table.specs.Sections.{LieBetween}
 use Rattle.image_table.specs.declared.placed_image.PlacedImage.{PlacedImage}
 use Rattle.image_table.proofs.SectionLemmas.{EndsBefore, HasBytes}
 
@@ -220,3 +223,39 @@ pub begins_of : (sections parts : List Part)
     → IsNonDecreasingBy (λ part. part.at) parts
 begins_of sections parts same rising =
     subst (IsNonDecreasingBy (λ (part : Part). part.at)) (sym same) (rising_begins sections rising)
+
+-- how many home ranges there are
+
+-- parts with bytes, of which each ends before the next begins, are no more than the bytes between them
+few_parts : (parts : List Part) (low high : ℕ)
+    → low ≤ high
+    → LieBetween low high parts
+    → All HasBytes parts
+    → AllPairs EndsBefore parts
+    → length parts + low ≤ high
+few_parts [] low high room between some rising = omega arith
+few_parts (part ∷ parts) low high room between some rising =
+    let first : (low ≤ part.at) × (part.at + part.length ≤ high) = between 0 part (omega arith) in
+    let bytes : 0 < part.length = some 0 part (omega arith) in
+    let rest : length parts + (part.at + part.length) ≤ high =
+    few_parts parts (part.at + part.length) high first.1
+    (λ k d within. (rising 0 (suc k) d (omega arith) (omega arith), (between (suc k) d (omega arith)).1))
+    (λ k d within. some (suc k) d (omega arith))
+    (λ i j d less within. rising (suc i) (suc j) d (omega arith) (omega arith)) in
+    omega arith
+
+-- so an image has at most as many sections as its region has bytes
+pub few_sections : (image : PlacedImage) → IsPlaced image → length image.sections ≤ 33398784
+few_sections image placed =
+    let fits : 4096 * image.region.pages ≤ 33398784 = pages_fit image placed.within in
+    let few : length image.sections + image.headers ≤ 4096 * image.region.pages =
+    few_parts image.sections image.headers (4096 * image.region.pages) placed.header placed.between placed.bytes placed.rising in
+    omega arith
+  where
+    pages_fit : (image : PlacedImage) → encloses mmram (region_of image.region) ≡ true → 4096 * image.region.pages ≤ 33398784
+    pages_fit image within = grind (arith, nat_tests)
+
+pub count_of_homes : (image : PlacedImage) → length (home_ranges image) ≡ length image.sections + 6
+count_of_homes image =
+    let homes : List Home = map (section_home image.region.base) image.sections in
+    omega (arith, length-append homes (page_homes image.region), length-map image.region.base image.sections)

@@ -1,5 +1,5 @@
 //! An image in memory, and what of memory is its own.
-ghost use Rattle.std.specs.Prelude.{◌≡◌, ◌^◌, ◌<◌, map, slice_get};
+ghost use Rattle.std.specs.Prelude.{◌≡◌, ◌^◌, ◌<◌, ◌≤◌, length, map, slice_get};
 ghost use Rattle.std.specs.List.{list_any};
 ghost use Rattle.mm_base.specs.Regions.{IsAddressable};
 ghost use Rattle.image_table.specs.HomeRanges.{IsPlaced, grants, header_home, home_ranges, is_own, page_homes, section_home};
@@ -10,6 +10,9 @@ use mm_base::{Guid, List, Part, Range, Region, Right};
 const READ: u8 = 1;
 
 const READ_AND_WRITE: u8 = 3;
+
+/// How many home ranges an image has beside its sections: its headers, and five past its own pages.
+const HEADERS_AND_PAGES: u32 = 6;
 
 /// An image in memory: its name, its region, how many bytes its headers have, and those of its sections that have bytes, by
 /// rising address.
@@ -22,6 +25,16 @@ pub struct PlacedImage {
 }
 
 impl PlacedImage {
+    /// How many home ranges it has. It costs one step.
+    pub fn ranges(&self) -> u32
+        requires { IsPlaced self.now }
+        ensures value { result ≡ length (home_ranges self.now) }
+        ensures most { length (home_ranges self.now) ≤ 33554438 }
+    {
+        let sections = self.sections.as_slice().len();
+        sections as u32 + HEADERS_AND_PAGES
+    }
+
     /// The home range at place `k` by rising address, with the bits of its rights; None past the last. It costs a bounded
     /// number of steps.
     pub fn range(&self, k: u32) -> Option<(Range, u8)>

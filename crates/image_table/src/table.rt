@@ -112,6 +112,15 @@ impl ImageTable {
         self.images[image as usize].region.pages
     }
 
+    /// How many home ranges an image has. It costs one step.
+    pub fn ranges(&self, image: u32) -> u32
+        requires { image < length self.now }
+        ensures value { result ≡ length (home_ranges_at self.now image) }
+        ensures most { length (home_ranges_at self.now image) ≤ 33554438 }
+    {
+        self.images[image as usize].ranges()
+    }
+
     /// The home range at place `k` of an image by rising address, with the bits of its rights (1 for read, 2 for write, 4 for
     /// execute); None past the last. It costs a bounded number of steps.
     pub fn range(&self, image: u32, k: u32) -> Option<(Range, u8)>

@@ -12,6 +12,7 @@ pub mod Laws
 pub mod MachineLemmas
 pub mod Message
 pub mod PartsInside
+pub mod ReachingInside
 pub mod Scripted
 pub mod StepInside
 pub mod Version

@@ -16,6 +16,7 @@ mod invoke;
 pub mod laws;
 mod machine_core;
 mod page;
+mod reaching;
 mod script_core;
 #[cfg(test)]
 mod tests;

@@ -24,7 +24,7 @@ use supervisor_calls::Tables;
 /// A core: its images, its handlers and its interfaces, which are frozen, its memory and the cells of the platform. A script's has no images.
 #[derive(Drop)]
 pub struct Core {
-    parts: CoreParts,
+    pub(crate) parts: CoreParts,
 }
 
 impl Model for Core {
@@ -61,7 +61,8 @@ impl Core {
 
     /// How many images are loaded: 32 at most.
     pub fn images(&self) -> u32
-        ensures { result ≡ length self.now.site.supervised.images }
+        ensures value { result ≡ length self.now.site.supervised.images }
+        ensures most { length self.now.site.supervised.images ≤ 32 }
     {
         match &self.parts {
             CoreParts::Scripted(..) => 0,

@@ -4,6 +4,7 @@ ghost use Rattle.std.specs.List.{list_any};
 ghost use Rattle.std.specs.Option.{option_map};
 ghost use Rattle.image_table.specs.ImageTable.{home_ranges_at, name_at};
 ghost use Rattle.mm_base.specs.Numbers.{number_in};
+ghost use Rattle.mm_base.specs.Policies.{IsLawfulPolicy};
 ghost use Rattle.mm_memory.specs.Flat.{AreLive};
 ghost use Rattle.mmi_registry.specs.Handlers.{chain_of};
 ghost use Rattle.protocol_db.specs.Rows.{AreApart, is_of_guid, owned_by};
@@ -82,6 +83,15 @@ impl<F: Frames> Tables<F> {
         self.memory.read(at, n)
     }
 
+    /// How many home ranges an image has. It costs one step.
+    pub fn home_ranges(&self, image: u32) -> u32
+        requires { image < length self.now.site.images }
+        ensures value { result ≡ length (home_ranges_at self.now.site.images image) }
+        ensures most { length (home_ranges_at self.now.site.images image) ≤ 33554438 }
+    {
+        self.images.ranges(image)
+    }
+
     /// The home range at place `k` of an image by rising address, with the bits of its rights (1 for read, 2 for write, 4 for
     /// execute); None past the last. It costs a bounded number of steps.
     pub fn home_range(&self, image: u32, k: u32) -> Option<(Range, u8)>
@@ -93,7 +103,8 @@ impl<F: Frames> Tables<F> {
 
     /// The policy.
     pub fn policy(&self) -> &Policy
-        ensures { result.now ≡ self.now.site.policy }
+        ensures value { result.now ≡ self.now.site.policy }
+        ensures lawful { IsLawfulPolicy result.now }
     {
         self.guard.policy()
     }
