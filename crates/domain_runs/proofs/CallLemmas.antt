@@ -70,7 +70,7 @@ few_parts = record {
   denial = λ denial domain few. denial_few denial (acting_of domain) few;
   write = λ kind at n value domain pass few.
       write_few kind at n value domain.records (verdict_in domain kind at n Write) pass few;
-  clearing = λ at n domain few. few;
+  clearing = λ at n domain pass few. few;
   pool = λ pool domain few. few;
   reserve = λ reserve domain few. few;
   handlers = λ registry domain few.
@@ -102,7 +102,7 @@ module _ (tables : TablesState) (locked : tables.locked ≡ true) where
   tables_parts = record {
     denial = λ denial domain has. acted_has domain (with_denial denial (acting_of domain)) has;
     write = λ kind at n value domain pass has. acted_has domain (acting_of (after_write kind at n value domain)) has;
-    clearing = λ at n domain has. acted_has domain (acting_of (after_clearing at n domain)) has;
+    clearing = λ at n domain pass has. acted_has domain (acting_of (after_clearing at n domain)) has;
     pool = λ pool domain has. acted_has domain (acting_of (with_pool pool domain)) has;
     reserve = λ reserve domain has. acted_has domain (acting_of (with_reserve reserve domain)) has;
     handlers = λ registry domain has.

@@ -33,7 +33,7 @@ pub record KeepsParts (P : DomainState → Type 0) : Type 0 where
   pub denial : (denial : Denial) (domain : DomainState) → P domain → P (with_denied denial domain)
   pub write : (kind : Kind) (at n value : ℕ) (domain : DomainState) → passes (write_verdict domain kind at n) ≡ true
       → P domain → P (after_write kind at n value domain)
-  pub clearing : (at n : ℕ) (domain : DomainState) → P domain → P (after_clearing at n domain)
+  pub clearing : (at n : ℕ) (domain : DomainState) → passes (write_verdict domain Memory at n) ≡ true → P domain → P (after_clearing at n domain)
   pub pool : (pool : List Block) (domain : DomainState) → P domain → P (with_pool pool domain)
   pub reserve : (reserve : List Bool) (domain : DomainState) → P domain → P (with_reserve reserve domain)
   pub handlers : (registry : RegistryState) (domain : DomainState) → P domain → P (with_handlers registry domain)
@@ -109,7 +109,7 @@ module _ (P : DomainState → Type 0) (parts : KeepsParts P) where
   bytes_cleared_kept : (at n : ℕ) (domain : DomainState) → P domain → P (bytes_cleared at n domain).1
   bytes_cleared_kept at n domain p =
       let_through_kept {A = Unit {0}} (write_verdict domain Memory at n) (denial_of Memory Write at n) tt (after_clearing at n domain) domain
-      (λ _. parts.clearing at n domain p) p
+      (λ pass. parts.clearing at n domain pass p) p
 
   done_kept : (deed : Deed) (domain : DomainState) → P domain → P (done deed domain).1
   done_kept (Returns status) domain p = p

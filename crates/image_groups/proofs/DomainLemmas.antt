@@ -370,8 +370,13 @@ module _ (group : Group) (site : Site) (placed : IsSite site) (facts : Facts gro
           → Agree work (stop verdict (number_of (bytes_at (erase group site work.live) at 8)) (erased work)) (stop verdict (number_of (bytes_at work.live at 8)) work)
       by_same (Pass why) is = inl (number_of (bytes_at work.live at 8), (ap (λ (v : ℕ). (Ok v, domain (erased work))) (is refl), refl))
       by_same (Deny why) is =
-          inr (Stop (denial_of kinds.Memory rights.Read at 8 why), (with_denied (denial_of kinds.Memory rights.Read at 8 why) (domain work),
-          (ap (λ (d : DomainState). (Err (Stop (denial_of kinds.Memory rights.Read at 8 why)), d)) (denied_along (denial_of kinds.Memory rights.Read at 8 why) work), refl)))
+          inr (
+            Stop (denial_of kinds.Memory rights.Read at 8 why),
+            (
+              with_denied (denial_of kinds.Memory rights.Read at 8 why) (domain work),
+              (ap (λ (d : DomainState). (Err (Stop (denial_of kinds.Memory rights.Read at 8 why)), d)) (denied_along (denial_of kinds.Memory rights.Read at 8 why) work), refl),
+            ),
+          )
 
       by_verdict : (verdict other : Verdict) → other ≡ verdict
           → (passes verdict ≡ true → number_of (bytes_at (erase group site work.live) at 8) ≡ number_of (bytes_at work.live at 8))

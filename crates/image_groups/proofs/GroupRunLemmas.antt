@@ -123,15 +123,23 @@ module _ (group : Group) (site : Site) (placed : IsSite site) (facts : Facts gro
 
     left_kept : (left : Live) → KeepsEffects site registry protocols pages image (Leaves left)
     left_kept left = record {
-      write = λ work kind at n value pass has. (with_number-whole site placed registry protocols pages image work has.0 kind at n value pass,
-      number_left work has.0 kind at n value pass ∙ has.1);
-      clearing = λ work at n pass has. (cleared-whole site placed registry protocols pages image work has.0 at n pass,
-      clearing_left work has.0 at n pass ∙ has.1);
-      pool = λ pool live has. (record { memory = has.0.memory; cells = has.0.cells },
-      ap (λ (pools : List (List Block)). record (erase group site live) { pools = pools }) (masked-set_other [] group live.pools image pool other) ∙ has.1);
-      reserve = λ reserve live has. (record { memory = has.0.memory; cells = has.0.cells },
-      ap (λ (reserves : List (List Bool)). record (erase group site live) { reserves = reserves })
-      (masked-set_other (replicate 16 false) group live.reserves image reserve other) ∙ has.1);
+      write = λ work kind at n value pass has. (
+        with_number-whole site placed registry protocols pages image work has.0 kind at n value pass,
+        number_left work has.0 kind at n value pass ∙ has.1,
+      );
+      clearing = λ work at n pass has. (
+        cleared-whole site placed registry protocols pages image work has.0 at n pass,
+        clearing_left work has.0 at n pass ∙ has.1,
+      );
+      pool = λ pool live has. (
+        record { memory = has.0.memory; cells = has.0.cells },
+        ap (λ (pools : List (List Block)). record (erase group site live) { pools = pools }) (masked-set_other [] group live.pools image pool other) ∙ has.1,
+      );
+      reserve = λ reserve live has. (
+        record { memory = has.0.memory; cells = has.0.cells },
+        ap (λ (reserves : List (List Bool)). record (erase group site live) { reserves = reserves })
+            (masked-set_other (replicate 16 false) group live.reserves image reserve other) ∙ has.1,
+      );
     }
 
     pub run_outside : (fuel stack address : ℕ) (arguments : List ℕ) (work : Work) → IsWhole work.live

@@ -6,7 +6,6 @@ pub mod EndsLemmas
 pub mod FactLemmas
 pub mod GroupRunLemmas
 pub mod InvocationLemmas
-pub mod KeptLemmas
 pub mod LiveLemmas
 pub mod MaskLemmas
 pub mod PackedLemmas

@@ -47,13 +47,13 @@ module _ (group : Group) (site : Site) where
       let told : is_device_byte at ≡ false = memory_told at n memory some in
       ap (λ (b : Bool). if b then take n (drop (at - 0xfe000000) (erase group site live).platform.device) else take n (drop (at - 0x80000000) (erase group site live).memory)) told
       ∙ piece_at_same 0 (λ k. granted group site kinds.Memory (0x80000000 + k)) (at - 0x80000000) n live.memory
-        (by_place true kinds.Memory 0x80000000 at n memory.from each)
+      (by_place true kinds.Memory 0x80000000 at n memory.from each)
       ∙ sym (ap (λ (b : Bool). if b then take n (drop (at - 0xfe000000) live.platform.device) else take n (drop (at - 0x80000000) live.memory)) told)
   bytes_same live at n some (inr device) each =
       let told : is_device_byte at ≡ true = device_told at n device some in
       ap (λ (b : Bool). if b then take n (drop (at - 0xfe000000) (erase group site live).platform.device) else take n (drop (at - 0x80000000) (erase group site live).memory)) told
       ∙ piece_at_same 0 (λ k. granted group site kinds.Memory (0xfe000000 + k)) (at - 0xfe000000) n live.platform.device
-        (by_place true kinds.Memory 0xfe000000 at n device.from each)
+      (by_place true kinds.Memory 0xfe000000 at n device.from each)
       ∙ sym (ap (λ (b : Bool). if b then take n (drop (at - 0xfe000000) live.platform.device) else take n (drop (at - 0x80000000) live.memory)) told)
 
   pub ports_same : (live : Live) (at n : ℕ) → AreGranted kinds.Io at n
@@ -157,7 +157,7 @@ module _ (group : Group) (site : Site) where
           cells = record {
             ports = whole.cells.ports;
             device = length-overwritten live.platform.device piece (at - 0xfe000000) (omega (arith, whole.cells.device, device.from, device.to, few))
-            ∙ whole.cells.device;
+                ∙ whole.cells.device;
             msrs = whole.cells.msrs;
             upper_msrs = whole.cells.upper_msrs;
           };
@@ -207,12 +207,16 @@ module _ (group : Group) (site : Site) where
         mine = each index (record { from = omega arith; to = omega (arith, some) })
 
         by_test : (low : Bool) → nat_lt index 0x2000 ≡ low
-            → record (erase group site live) { platform = if low
-            then record (erase group site live).platform { msrs = set (erase group site live).platform.msrs index value }
-            else record (erase group site live).platform { upper_msrs = set (erase group site live).platform.upper_msrs (index - 0xc0000000) value } }
-            ≡ erase group site (record live { platform = if low
-            then record live.platform { msrs = set live.platform.msrs index value }
-            else record live.platform { upper_msrs = set live.platform.upper_msrs (index - 0xc0000000) value } })
+            → record (erase group site live) {
+              platform = if low
+                  then record (erase group site live).platform { msrs = set (erase group site live).platform.msrs index value }
+                  else record (erase group site live).platform { upper_msrs = set (erase group site live).platform.upper_msrs (index - 0xc0000000) value };
+            }
+            ≡ erase group site (record live {
+              platform = if low
+                  then record live.platform { msrs = set live.platform.msrs index value }
+                  else record live.platform { upper_msrs = set live.platform.upper_msrs (index - 0xc0000000) value };
+            })
         by_test true is =
             ap (λ (msrs : List ℕ). record (erase group site live) { platform = record (erase group site live).platform { msrs = msrs } })
             (set-masked 0 (λ k. granted group site kinds.Msr k) live.platform.msrs index value mine)
@@ -228,9 +232,11 @@ module _ (group : Group) (site : Site) where
         other = each index (record { from = omega arith; to = omega (arith, some) })
 
         by_test : (low : Bool) → nat_lt index 0x2000 ≡ low
-            → erase group site (record live { platform = if low
-            then record live.platform { msrs = set live.platform.msrs index value }
-            else record live.platform { upper_msrs = set live.platform.upper_msrs (index - 0xc0000000) value } })
+            → erase group site (record live {
+              platform = if low
+                  then record live.platform { msrs = set live.platform.msrs index value }
+                  else record live.platform { upper_msrs = set live.platform.upper_msrs (index - 0xc0000000) value };
+            })
             ≡ erase group site live
         by_test true is =
             ap (λ (msrs : List ℕ). record (erase group site live) { platform = record (erase group site live).platform { msrs = msrs } })
@@ -242,9 +248,11 @@ module _ (group : Group) (site : Site) where
     pub register-whole : IsWhole live → IsWhole (record live { platform = with_register index value live.platform })
     register-whole whole = by_test (nat_lt index 0x2000)
       where
-        by_test : (low : Bool) → IsWhole (record live { platform = if low
-            then record live.platform { msrs = set live.platform.msrs index value }
-            else record live.platform { upper_msrs = set live.platform.upper_msrs (index - 0xc0000000) value } })
+        by_test : (low : Bool) → IsWhole (record live {
+          platform = if low
+              then record live.platform { msrs = set live.platform.msrs index value }
+              else record live.platform { upper_msrs = set live.platform.upper_msrs (index - 0xc0000000) value };
+        })
         by_test true = record {
           memory = whole.memory;
           cells = record {

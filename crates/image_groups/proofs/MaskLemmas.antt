@@ -41,7 +41,7 @@ module _ {A : Type 0} (blank : A) where
       ap (λ (rest : List A). (if test 0 then item else blank) ∷ rest)
       (masked-append (λ k. test (suc k)) items more
       ∙ ap (λ (rest : List A). masked blank (λ k. test (suc k)) items ++ rest)
-        (masked_same (λ k. test (suc (length items + k))) (λ k. test (suc (length items) + k)) more (λ k. ap test (omega arith))))
+      (masked_same (λ k. test (suc (length items + k))) (λ k. test (suc (length items) + k)) more (λ k. ap test (omega arith))))
 
   -- where each place passes, nothing changes
   pub masked_all : (test : ℕ → Bool) (items : List A) → ((k : ℕ) → k < length items → test k ≡ true) → masked blank test items ≡ items

@@ -16,7 +16,7 @@ use Rattle.supervisor_calls.specs.Domains.{DomainState, acted, acting_of, verdic
 use Rattle.supervisor_calls.specs.Services.{domain_meaning}
 use Rattle.supervisor_calls.specs.Tables.{Live, Site}
 use Rattle.supervisor_calls.proofs.CellLemmas.{passes_without_quota}
-use Rattle.image_groups.proofs.KeptLemmas.{KeepsParts, calls_kept}
+use Rattle.domain_runs.proofs.KeptLemmas.{KeepsParts, calls_kept}
 use Rattle.image_groups.proofs.DomainLemmas.{Work, packed}
 
 module _ (site : Site) (registry : RegistryState) (protocols : DbState) (pages : List Bool) (image : ℕ) (R : Live → Type 0) where
@@ -40,12 +40,14 @@ module _ (site : Site) (registry : RegistryState) (protocols : DbState) (pages :
     parts : KeepsParts IsAtWork
     parts = record {
       denial = λ denial d p. subst (λ x. IsAtWork (with_denied denial x)) (sym p.1.0) (by_room denial p.0 p.1.1 (nat_lt (length p.0.records.denials) 8));
-      write = λ kind at n value d pass p. subst (λ x. IsAtWork (after_write kind at n value x)) (sym p.1.0)
-          (record { live = with_number kind at n value p.0.live; saved = p.0.saved; records = with_cell_write kind at n value p.0.records },
-          (refl, effects.write p.0 kind at n value (unlimited p.0 kind at n (ap (λ x. passes (write_verdict x kind at n)) (sym p.1.0) ∙ pass)) p.1.1));
-      clearing = λ at n d pass p. subst (λ x. IsAtWork (after_clearing at n x)) (sym p.1.0)
-          (record p.0 { live = with_bytes at (zeros n) p.0.live },
-          (refl, effects.clearing p.0 at n (unlimited p.0 kinds.Memory at n (ap (λ x. passes (write_verdict x kinds.Memory at n)) (sym p.1.0) ∙ pass)) p.1.1));
+      write = λ kind at n value d pass p. subst (λ x. IsAtWork (after_write kind at n value x)) (sym p.1.0) (
+        record { live = with_number kind at n value p.0.live; saved = p.0.saved; records = with_cell_write kind at n value p.0.records },
+        (refl, effects.write p.0 kind at n value (unlimited p.0 kind at n (ap (λ x. passes (write_verdict x kind at n)) (sym p.1.0) ∙ pass)) p.1.1),
+      );
+      clearing = λ at n d pass p. subst (λ x. IsAtWork (after_clearing at n x)) (sym p.1.0) (
+        record p.0 { live = with_bytes at (zeros n) p.0.live },
+        (refl, effects.clearing p.0 at n (unlimited p.0 kinds.Memory at n (ap (λ x. passes (write_verdict x kinds.Memory at n)) (sym p.1.0) ∙ pass)) p.1.1),
+      );
       pool = λ pool d p. subst (λ x. IsAtWork (with_pool pool x)) (sym p.1.0)
           (record p.0 { live = record p.0.live { pools = set p.0.live.pools image pool } }, (refl, effects.pool pool p.0.live p.1.1));
       reserve = λ reserve d p. subst (λ x. IsAtWork (with_reserve reserve x)) (sym p.1.0)

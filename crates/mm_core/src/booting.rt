@@ -39,6 +39,7 @@ pub fn boot(
         starts,
         waiting,
     } = boot_volume(alloc, bytes, volume, opening)?;
+    tables.keeps_cells();
     Ok(Boot {
         core: Core::of_tables(tables),
         starts,

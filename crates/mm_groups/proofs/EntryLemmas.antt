@@ -92,9 +92,10 @@ module _ (group : Group) (site : Site) (placed : IsSite site.supervised) (facts 
   chain_none request live BadLength ready no_one = (refl, refl)
   chain_none request live BadHeader ready no_one = (refl, refl)
   chain_none request live (NoHandler guid) ready no_one = (refl, refl)
-  chain_none request live (Dispatched guid) ready no_one =
-      (none_own group site placed facts false request.saved (chain_of (Some guid) site.handlers) (message_of request) live ready (owners guid false no_one) (chain_founds (Some guid)),
-      others_left group site placed facts false request.saved (chain_of (Some guid) site.handlers) (message_of request) live ready (owners guid false no_one))
+  chain_none request live (Dispatched guid) ready no_one = (
+    none_own group site placed facts false request.saved (chain_of (Some guid) site.handlers) (message_of request) live ready (owners guid false no_one) (chain_founds (Some guid)),
+    others_left group site placed facts false request.saved (chain_of (Some guid) site.handlers) (message_of request) live ready (owners guid false no_one),
+  )
 
   chain_stays_ready : (request : Request) (live : Live) (shape : Shape) → Ready live → Ready (live_after live (chain_runs site request live shape))
   chain_stays_ready request live BadLength ready = ready

@@ -42,7 +42,7 @@ module _ (test : ℕ → Bool) (region : Region) (memory : List ℕ) (inside : p
       let first : overwritten (masked 0 test memory) page (zeros 4096) ≡ masked 0 test (overwritten memory page (zeros 4096)) =
       overwritten-masked test memory (zeros 4096) page (omega (arith, inside)) (λ k from to. each k from (omega (arith, to, length-zeros 4096))) in
       let second : overwritten (masked 0 test (overwritten memory page (zeros 4096))) page (bytes_of_word message.size)
-          ≡ masked 0 test (overwritten (overwritten memory page (zeros 4096)) page (bytes_of_word message.size)) =
+      ≡ masked 0 test (overwritten (overwritten memory page (zeros 4096)) page (bytes_of_word message.size)) =
       overwritten-masked test (overwritten memory page (zeros 4096)) (bytes_of_word message.size) page (omega (arith, inside, blank_long))
       (λ k from to. each k from (omega (arith, to, word_long message.size))) in
       ap (λ (m : List ℕ). overwritten (overwritten m page (bytes_of_word message.size)) (page + 8) (take page_room message.buffer)) first

@@ -5,6 +5,7 @@ ghost use Rattle.mm_base.specs.Cells.{IsOpening, IsOpeningCell, is_msr};
 ghost use Rattle.mm_base.specs.Frames.{zeros};
 ghost use Rattle.mm_base.specs.Numbers.{low_bytes, number_in, overwritten};
 ghost use Rattle.platform_model.specs.Cells.{PlatformState, IsPortWidth, register_in, with_register};
+ghost use Rattle.platform_model.specs.Cells.{IsPlatform};
 ghost use Rattle.platform_model.specs.Opening.{opening_state};
 ghost use Rattle.platform_model.specs.OpeningInside.{blank_state, with_cell};
 
@@ -55,6 +56,13 @@ impl Platform {
             platform.put(*cell);
         }
         Ok(platform)
+    }
+
+    /// What holds of all cells: each of the map is there.
+    pub fn keeps(&self)
+        ensures { IsPlatform self.now }
+    {
+        let _ = self.ports.len();
     }
 
     /// All cells 0.

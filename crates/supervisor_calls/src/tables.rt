@@ -6,6 +6,7 @@ ghost use Rattle.image_table.specs.Sections.{AreApart, LieBetween};
 ghost use Rattle.mm_base.specs.Platform.{mmram};
 ghost use Rattle.mm_base.specs.Range.{encloses};
 ghost use Rattle.mm_base.specs.Regions.{region_of};
+ghost use Rattle.platform_model.specs.Cells.{IsPlatform};
 ghost use Rattle.supervisor_calls.specs.Tables.{IsTables, IsRegionLive, number_for, with_image};
 ghost use Rattle.supervisor_calls.specs.Within.{IsOrderly};
 
@@ -173,6 +174,13 @@ impl<F: Frames> Tables<F> {
         ensures few { length self.now.site.images ≤ 32 }
     {
         let _ = self.images.len();
+    }
+
+    /// All cells of the platform's map are there.
+    pub fn keeps_cells(&self)
+        ensures { IsPlatform self.now.live.platform }
+    {
+        self.platform.keeps();
     }
 
     /// All tables are as the law asks of what a domain's calls leave alone.
