@@ -57,7 +57,8 @@ group_word closed = if closed then codes "closed" else codes "open"
 
 -- the line of image k: its number, its name, and whether the group of that image alone is closed
 unfoldable pub image_line : ℕ → Guid → Bool → List ℕ
-image_line k name closed = codes "image " ++ decimal k ++ codes " " ++ guid_text name ++ codes " " ++ group_word closed ++ codes "\n"
+image_line k name closed =
+    codes "image " ++ decimal k ++ codes " " ++ guid_text name ++ codes " " ++ group_word closed ++ codes "\n"
 
 -- the line of image k with the first of these flags
 abbrev pub first_image_line : ℕ → Guid → List Bool → List ℕ

@@ -125,7 +125,8 @@ fn put_images_part(
     closed: Option<&List<bool>>,
 ) -> Result<(), NoMemory>
     requires { StandBeside (names_of (option_copied locked)) (option_copied closed) }
-    ensures { OnOk result (Adds page.old (part_lines (images_lines 0 (names_of (option_copied locked.entry))) (option_copied closed.entry)) page.new) }
+    ensures { OnOk result (Adds page.old
+        (part_lines (images_lines 0 (names_of (option_copied locked.entry))) (option_copied closed.entry)) page.new) }
 {
     match closed {
         None => page.put(b""),
