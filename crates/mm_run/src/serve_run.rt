@@ -123,6 +123,7 @@ fn told<'a>(
         starts: Some(&parts.starts),
         waiting: Some(&parts.waiting),
         locked: Some(&parts.locked),
+        closed: None,
         entries: Some(entries),
         lanes: Some(lanes),
     };

@@ -1,13 +1,15 @@
 -- Texts that grow piece by piece.
-use Rattle.std.proofs.Common.{◌≡◌, ℕ, ◌+◌, ◌<◌, ◌/◌, ◌%◌, List, [], ◌∷◌, ◌++◌, length, drop, get_or, refl, ap, sym, ◌∙◌, append_assoc, slice_index, map, arith, Bor}
+use Rattle.std.proofs.Common.{◌≡◌, ℕ, ◌+◌, ◌<◌, ◌/◌, ◌%◌, Bool, List, [], ◌∷◌, ◌++◌, length, drop, get_or, refl, ap, sym, ◌∙◌, append_assoc, slice_index, map, arith, Bor}
 use Rattle.std.proofs.lemmas.List.{drop_more, append-nil, get_or-map, length-map, nil_from_length}
 use Rattle.std.specs.List.{flat_map}
 use Rattle.hex.specs.Hex.{encode_lower, encode_with, lower_digits}
 use Rattle.mm_base.specs.Numbers.{bytes_of_word, bytes_of_words}
 use Rattle.mm_text.specs.AddsInside.{Adds}
 use Rattle.mm_base.specs.declared.entry.Entry.{Entry}
+use Rattle.mm_base.specs.declared.guid.Guid.{Guid}
 use Rattle.mm_base.specs.declared.volume.File.{File}
 use Rattle.file_words.specs.declared.file_word.FileWord.{FileWord}
+use Rattle.mm_text.specs.BootLines.{image_line, images_lines}
 use Rattle.mm_text.specs.Report.{bytes_text, entry_lines, entries_lines, lane_line, lanes_lines}
 use Rattle.mm_text.specs.VolumeLines.{file_line, files_lines}
 
@@ -100,3 +102,14 @@ files_lines-turn files words k file word whole {old} {now} within same left adds
     let there : drop k words ≡ get_or words k word ∷ drop (k + 1) words = drop_more words k word (omega arith) in
     left_behind (files_lines (drop (k + 1) files) (drop (k + 1) words)) whole adds
     (ap (λ text. old ++ text) (λ i. files_lines (sym here i) (sym there i)) ∙ left)
+
+-- one turn of the loop that puts each image's line
+pub images_lines-turn : (names : List Guid) (closed : List Bool) (k : ℕ) (name : Guid) (flag : Bool) (whole : List ℕ) {old now : List ℕ}
+    → k < length names → length closed ≡ length names → old ++ images_lines k (drop k names) (drop k closed) ≡ whole
+    → Adds old (image_line k (get_or names k name) (get_or closed k flag)) now
+    → now ++ images_lines (k + 1) (drop (k + 1) names) (drop (k + 1) closed) ≡ whole
+images_lines-turn names closed k name flag whole {old} {now} within same left adds =
+    let here : drop k names ≡ get_or names k name ∷ drop (k + 1) names = drop_more names k name within in
+    let there : drop k closed ≡ get_or closed k flag ∷ drop (k + 1) closed = drop_more closed k flag (omega arith) in
+    left_behind (images_lines (k + 1) (drop (k + 1) names) (drop (k + 1) closed)) whole adds
+    (ap (λ text. old ++ text) (λ i. images_lines k (sym here i) (sym there i)) ∙ left)

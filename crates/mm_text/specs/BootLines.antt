@@ -1,6 +1,6 @@
--- The lines of a boot: its policy, its starts, the drivers that wait, and what is there at lock. Each ends with a line feed
--- (byte 10).
-use Rattle.std.specs.Prelude.{ℕ, List, ◌++◌, length, codes, Option, Some, None}
+-- The lines of a boot: its policy, its starts, the drivers that wait, what is there at lock, and the images. Each ends with a
+-- line feed (byte 10).
+use Rattle.std.specs.Prelude.{ℕ, ◌+◌, Bool, if◌then◌else◌, List, [], ◌∷◌, ◌++◌, length, drop, codes, Option, Some, None}
 use Rattle.std.specs.Fmt.{decimal}
 use Rattle.std.specs.List.{flat_map}
 use Rattle.mm_base.specs.Guid.{guid_text}
@@ -50,3 +50,22 @@ unfoldable pub locked_line : Locked → List ℕ
 locked_line locked =
     codes "locked images " ++ decimal (length locked.names) ++ codes " handlers " ++ decimal locked.handlers
     ++ codes " protocols " ++ decimal locked.protocols ++ codes "\n"
+
+-- the word for whether a group is closed
+abbrev pub group_word : Bool → List ℕ
+group_word closed = if closed then codes "closed" else codes "open"
+
+-- the line of image k: its number, its name, and whether the group of that image alone is closed
+unfoldable pub image_line : ℕ → Guid → Bool → List ℕ
+image_line k name closed =
+    codes "image " ++ decimal k ++ codes " " ++ guid_text name ++ codes " " ++ group_word closed ++ codes "\n"
+
+-- the line of image k with the first of these flags
+abbrev pub first_image_line : ℕ → Guid → List Bool → List ℕ
+first_image_line k name [] = []
+first_image_line k name (closed ∷ others) = image_line k name closed
+
+-- the lines of images, numbered from k on, each name with the flag at its place
+abbrev pub images_lines : ℕ → List Guid → List Bool → List ℕ
+images_lines k [] closed = []
+images_lines k (name ∷ names) closed = first_image_line k name closed ++ images_lines (k + 1) names (drop 1 closed)

@@ -1,6 +1,6 @@
 -- The report: what is written of a volume and its files, of a boot, of entries in recorded order, and of lanes. Each line
 -- ends with a line feed (byte 10, the last byte of each line's definition).
-use Rattle.std.specs.Prelude.{◌≡◌, ℕ, ◌+◌, ◌≤◌, ◌==◌, if◌then◌else◌, List, [], ◌∷◌, ◌++◌, length, drop, slice_index, codes, All, Option, Some, None}
+use Rattle.std.specs.Prelude.{◌≡◌, ℕ, ◌+◌, ◌≤◌, ◌==◌, Bool, if◌then◌else◌, List, [], ◌∷◌, ◌++◌, length, drop, slice_index, codes, All, Option, Some, None}
 use Rattle.std.specs.Fmt.{decimal}
 use Rattle.std.specs.List.{flat_map, list_all}
 use Rattle.std.specs.Option.{option_copied}
@@ -20,7 +20,7 @@ use Rattle.mm_base.specs.declared.volume.Volume.{Volume}
 use Rattle.mm_core.specs.CommunicateHeader.{is_lawful}
 use Rattle.driver_start.specs.declared.record.StartRecord.{StartRecord}
 use Rattle.file_words.specs.declared.file_word.FileWord.{FileWord}
-use Rattle.mm_text.specs.BootLines.{policy_line, start_lines, waiting_lines, locked_line}
+use Rattle.mm_text.specs.BootLines.{policy_line, start_lines, waiting_lines, locked_line, images_lines}
 use Rattle.mm_text.specs.RecordLines.{x16, invocation_lines}
 use Rattle.mm_text.specs.VolumeLines.{volume_line, files_lines}
 use Rattle.mm_text.specs.declared.parts.Locked.{Locked}
@@ -101,8 +101,8 @@ part_lines lines None = []
 part_lines lines (Some part) = lines part
 
 -- What a report tells of, each part if it is there: a volume, the words of its files, the policy of a boot, its starts,
--- the drivers that wait, what is there at lock, entries in recorded order, and lanes, each with its length, its status and
--- then its data.
+-- the drivers that wait, what is there at lock, whether the group of each image alone is closed, entries in recorded order,
+-- and lanes, each with its length, its status and then its data.
 pub record Reported : Type 0 where
   pub volume : Option Volume
   pub words : Option (List FileWord)
@@ -110,6 +110,7 @@ pub record Reported : Type 0 where
   pub starts : Option (List StartRecord)
   pub waiting : Option (List Guid)
   pub locked : Option Locked
+  pub closed : Option (List Bool)
   pub entries : Option (List Entry)
   pub lanes : Option (List (List ℕ))
 
@@ -122,6 +123,7 @@ nothing_reported = record {
   starts = None;
   waiting = None;
   locked = None;
+  closed = None;
   entries = None;
   lanes = None;
 }
@@ -130,6 +132,11 @@ nothing_reported = record {
 abbrev pub files_of : Option Volume → List File
 files_of None = []
 files_of (Some volume) = volume.files
+
+-- the names of the images at lock, if it is there
+abbrev pub names_of : Option Locked → List Guid
+names_of None = []
+names_of (Some locked) = locked.names
 
 -- the starts of a boot, with its policy in front
 abbrev pub boot_lines : Option Policy → List StartRecord → List ℕ
@@ -140,18 +147,19 @@ unfoldable pub report_of : Reported → List ℕ
 report_of parts =
     part_lines volume_line parts.volume ++ part_lines (files_lines (files_of parts.volume)) parts.words
     ++ part_lines (boot_lines parts.policy) parts.starts ++ part_lines waiting_lines parts.waiting
-    ++ part_lines locked_line parts.locked ++ part_lines (entries_lines 0) parts.entries
-    ++ part_lines (lanes_lines 0) parts.lanes
+    ++ part_lines locked_line parts.locked ++ part_lines (images_lines 0 (names_of parts.locked)) parts.closed
+    ++ part_lines (entries_lines 0) parts.entries ++ part_lines (lanes_lines 0) parts.lanes
 
 -- each lane has a length word and a status word
 abbrev pub HaveFrontWords : Option (List (List ℕ)) → Type 0
 HaveFrontWords None = Unit {0}
 HaveFrontWords (Some lanes) = All (λ lane. 2 ≤ length lane) lanes
 
--- words stand beside a volume, one for each of its files
-abbrev pub StandBeside : Option Volume → Option (List FileWord) → Type 0
-StandBeside volume None = Unit {0}
-StandBeside volume (Some words) = length words ≡ length (files_of volume)
+-- A part, if it is there, has one item for each of these: words stand so beside the files of a volume, and flags beside the
+-- names of images.
+abbrev pub StandBeside : {X Y : Type 0} → List X → Option (List Y) → Type 0
+StandBeside items None = Unit {0}
+StandBeside items (Some others) = length others ≡ length items
 
 -- what the parts of a command tell
 abbrev pub reported : Parts → Reported
@@ -162,6 +170,7 @@ reported parts = record {
   starts = option_copied parts.starts;
   waiting = option_copied parts.waiting;
   locked = option_copied parts.locked;
+  closed = option_copied parts.closed;
   entries = option_copied parts.entries;
   lanes = option_copied parts.lanes;
 }

@@ -1,9 +1,9 @@
-//! The lines of a boot: its policy, its starts, the drivers that wait, and what is there at lock.
-ghost use Rattle.std.specs.Prelude.{◌≡◌, Some, OnOk};
+//! The lines of a boot: its policy, its starts, the drivers that wait, what is there at lock, and the images.
+ghost use Rattle.std.specs.Prelude.{◌≡◌, length, Some, OnOk};
 ghost use Rattle.std.specs.List.{flat_map};
 ghost use Rattle.std.specs.Option.{option_copied};
 ghost use Rattle.mm_text.specs.AddsInside.{Adds};
-ghost use Rattle.mm_text.specs.BootLines.{policy_words, policy_line, start_words, start_line, start_lines, waiting_line, waiting_lines, locked_line};
+ghost use Rattle.mm_text.specs.BootLines.{policy_words, policy_line, start_words, start_line, start_lines, waiting_line, waiting_lines, locked_line, group_word, image_line, images_lines};
 
 use crate::page::Page;
 use crate::parts::Locked;
@@ -117,4 +117,34 @@ pub fn put_locked(page: &mut Page, locked: &Locked) -> Result<(), NoMemory>
     page.put_decimal(u64::from(locked.protocols))?;
     page.put(b"\n")?;
     Ok(())
+}
+
+/// The lines of images, each name with whether the group of that image alone is closed.
+pub fn put_images(page: &mut Page, names: &[Guid], closed: &[bool]) -> Result<(), NoMemory>
+    requires { length closed.now ≡ length names.now }
+    ensures { OnOk result (Adds page.old (images_lines 0 names.now closed.now) page.new) }
+{
+    for (k, name) in names.iter().enumerate() {
+        put_image(page, k as u64, *name, closed[k])?;
+    }
+    Ok(())
+}
+
+fn put_image(page: &mut Page, k: u64, name: Guid, closed: bool) -> Result<(), NoMemory>
+    ensures { OnOk result (Adds page.old (image_line k name closed) page.new) }
+{
+    page.put(b"image ")?;
+    page.put_decimal(k)?;
+    page.put(b" ")?;
+    page.put(&name.text())?;
+    page.put(b" ")?;
+    page.put_text(word_of_group(closed))?;
+    page.put(b"\n")?;
+    Ok(())
+}
+
+fn word_of_group(closed: bool) -> &'static str
+    ensures { result.now ≡ group_word closed }
+{
+    if closed { "closed" } else { "open" }
 }

@@ -32,6 +32,8 @@ pub struct Parts<'a> {
     pub waiting: Option<&'a List<Guid>>,
     /// What is there at lock.
     pub locked: Option<&'a Locked>,
+    /// Whether the group of each image alone is closed: a flag for each name there at lock, in their order.
+    pub closed: Option<&'a List<bool>>,
     /// The entries, in recorded order.
     pub entries: Option<&'a Entries>,
     /// All words of each lane: the length, the status, and then the data.
@@ -51,6 +53,7 @@ impl<'a> Parts<'a> {
             starts: None,
             waiting: None,
             locked: None,
+            closed: None,
             entries: None,
             lanes: None,
         }

@@ -5,11 +5,11 @@ ghost use Rattle.std.specs.Option.{option_copied};
 ghost use Rattle.hex.specs.Hex.{encode_lower};
 ghost use Rattle.mm_base.specs.Numbers.{bytes_of_word, bytes_of_words};
 ghost use Rattle.mm_text.specs.AddsInside.{Adds};
-ghost use Rattle.mm_text.specs.BootLines.{waiting_lines, locked_line};
-ghost use Rattle.mm_text.specs.Report.{bytes_text, boot_lines, entries_lines, lane_line, lanes_lines, part_lines, files_of, report_of, reported, HaveFrontWords, StandBeside};
+ghost use Rattle.mm_text.specs.BootLines.{waiting_lines, locked_line, images_lines};
+ghost use Rattle.mm_text.specs.Report.{bytes_text, boot_lines, entries_lines, lane_line, lanes_lines, part_lines, files_of, names_of, report_of, reported, HaveFrontWords, StandBeside};
 ghost use Rattle.mm_text.specs.VolumeLines.{volume_line, files_lines};
 
-use crate::boot_text::{put_locked, put_policy, put_starts, put_waiting};
+use crate::boot_text::{put_images, put_locked, put_policy, put_starts, put_waiting};
 use crate::entry_text::put_entry;
 use crate::page::Page;
 use crate::parts::{Locked, Parts};
@@ -21,7 +21,8 @@ use std::alloc::Global;
 
 /// The report of these parts. It costs as many steps as the text has bytes, and a reference an entry.
 pub fn report(alloc: Global, parts: &Parts) -> Result<Bytes, NoMemory>
-    requires words { StandBeside (option_copied parts.now.volume) (option_copied parts.now.words) }
+    requires words { StandBeside (files_of (option_copied parts.now.volume)) (option_copied parts.now.words) }
+    requires closed { StandBeside (names_of (option_copied parts.now.locked)) (option_copied parts.now.closed) }
     requires lanes { HaveFrontWords (option_copied parts.now.lanes) }
     ensures { IfOk result (λ bytes. bytes ≡ report_of (reported parts.now)) }
 {
@@ -31,6 +32,7 @@ pub fn report(alloc: Global, parts: &Parts) -> Result<Bytes, NoMemory>
     put_boot_part(&mut page, parts.policy, parts.starts)?;
     put_waiting_part(&mut page, parts.waiting)?;
     put_locked_part(&mut page, parts.locked)?;
+    put_images_part(&mut page, parts.locked, parts.closed)?;
     put_entries_part(&mut page, alloc, parts.entries)?;
     put_lanes_part(&mut page, parts.lanes)?;
     Ok(page.into_bytes())
@@ -50,7 +52,7 @@ fn put_files_part(
     volume: Option<&Volume>,
     words: Option<&List<FileWord>>,
 ) -> Result<(), NoMemory>
-    requires { StandBeside (option_copied volume) (option_copied words) }
+    requires { StandBeside (files_of (option_copied volume)) (option_copied words) }
     ensures { OnOk result (Adds page.old (part_lines (files_lines (files_of (option_copied volume.entry))) (option_copied words.entry)) page.new) }
 {
     match words {
@@ -114,6 +116,31 @@ fn put_locked_part(page: &mut Page, locked: Option<&Locked>) -> Result<(), NoMem
     match locked {
         None => page.put(b""),
         Some(locked) => put_locked(page, locked),
+    }
+}
+
+fn put_images_part(
+    page: &mut Page,
+    locked: Option<&Locked>,
+    closed: Option<&List<bool>>,
+) -> Result<(), NoMemory>
+    requires { StandBeside (names_of (option_copied locked)) (option_copied closed) }
+    ensures { OnOk result (Adds page.old
+        (part_lines (images_lines 0 (names_of (option_copied locked.entry))) (option_copied closed.entry)) page.new) }
+{
+    match closed {
+        None => page.put(b""),
+        Some(closed) => put_images_of(page, locked, closed.as_slice()),
+    }
+}
+
+fn put_images_of(page: &mut Page, locked: Option<&Locked>, closed: &[bool]) -> Result<(), NoMemory>
+    requires { length closed.now ≡ length (names_of (option_copied locked)) }
+    ensures { OnOk result (Adds page.old (images_lines 0 (names_of (option_copied locked.entry)) closed.now) page.new) }
+{
+    match locked {
+        None => page.put(b""),
+        Some(locked) => put_images(page, locked.names.as_slice(), closed),
     }
 }
 

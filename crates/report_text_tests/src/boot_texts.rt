@@ -1,4 +1,5 @@
 //! Reports of boots whose text was written by hand from the rules.
+use crate::report_texts::lane_of;
 use driver_start::{StartEnd, StartRecord};
 use mm_base::{
     CellWrite, Denial, Ended, FaultKind, Guid, Kind, List, NoMemory, Policy, Range, Right, Rule,
@@ -13,6 +14,10 @@ const FIRST: Guid = Guid([
 ]);
 
 const SECOND: Guid = Guid([0xaa; 16]);
+
+const THIRD: Guid = Guid([
+    0xaa, 0xaa, 0xaa, 0xaa, 0, 0, 0, 0, 0, 0, 0, 0, 0, 0, 0, 0x01,
+]);
 
 /// A start that left no records.
 fn start(alloc: Global, name: Guid, round: u32, ended: StartEnd) -> StartRecord {
@@ -180,7 +185,7 @@ fn waiting_and_locked(rt: HostRuntime) -> Result<(), Fail> {
         handlers: 64,
         protocols: 12,
     };
-    // a policy is told only where starts are
+    // a policy is told only where starts are, and images only where there are flags
     let parts = Parts {
         policy: Some(&policy),
         waiting: Some(&waiting),
@@ -215,12 +220,14 @@ fn a_boot_of_an_empty_volume(rt: HostRuntime) -> Result<(), Fail> {
         handlers: 0,
         protocols: 0,
     };
+    let closed = List::new(alloc);
     let parts = Parts {
         volume: Some(&volume),
         words: Some(&words),
         starts: Some(&starts),
         waiting: Some(&waiting),
         locked: Some(&locked),
+        closed: Some(&closed),
         ..Parts::none()
     };
     let text = report(alloc, &parts)?;
@@ -229,6 +236,36 @@ fn a_boot_of_an_empty_volume(rt: HostRuntime) -> Result<(), Fail> {
         b"volume 00000048 ffs2 files 0
 policy none fuel 65536
 locked images 0 handlers 0 protocols 0
+"
+            .as_slice()
+    );
+    Ok(())
+}
+
+#[test]
+fn images_by_number(rt: HostRuntime) -> Result<(), Fail> {
+    let alloc = rt.alloc();
+    let locked = Locked {
+        names: List::from_slice(alloc, &[SECOND, FIRST, THIRD])?,
+        handlers: 5,
+        protocols: 0,
+    };
+    let closed = List::from_slice(alloc, &[true, false, true])?;
+    let lanes = lane_of(alloc, &[24, 0, 0x0807_0605_0403_0201])?;
+    let parts = Parts {
+        locked: Some(&locked),
+        closed: Some(&closed),
+        lanes: Some(&lanes),
+        ..Parts::none()
+    };
+    let text = report(alloc, &parts)?;
+    assert_eq!(rt;
+        text.as_slice(),
+        b"locked images 3 handlers 5 protocols 0
+image 0 aaaaaaaa-aaaa-aaaa-aaaa-aaaaaaaaaaaa closed
+image 1 4d4d5631-0001-4000-8000-000000000001 open
+image 2 aaaaaaaa-0000-0000-0000-000000000001 closed
+lane 0 length 0000000000000018 status 0000000000000000 data 0102030405060708
 "
             .as_slice()
     );

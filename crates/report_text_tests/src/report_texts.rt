@@ -83,7 +83,7 @@ fn recorded(alloc: Global) -> Result<Invocation, NoMemory> {
 }
 
 /// One lane of these words.
-fn lane_of(alloc: Global, words: &[u64]) -> Result<List<List<u64>>, NoMemory>
+pub(crate) fn lane_of(alloc: Global, words: &[u64]) -> Result<List<List<u64>>, NoMemory>
     requires { 2 ≤ length words.now }
     ensures { IfOk result (λ lanes. HaveFrontWords (Some lanes)) }
 {

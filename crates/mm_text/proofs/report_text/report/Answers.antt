@@ -8,5 +8,6 @@ unfolding report_of
 returns c =
     c.into_bytes.ensures
     ∙ (c.in_ok-put_volume_part.ensures ▸ c.in_ok-put_files_part.ensures ▸ c.in_ok-put_boot_part.ensures ▸ c.in_ok-put_waiting_part.ensures
-    ▸ c.in_ok-put_locked_part.ensures ▸ c.in_ok-put_entries_part.ensures ▸ c.in_ok-put_lanes_part.ensures).is
+    ▸ c.in_ok-put_locked_part.ensures ▸ c.in_ok-put_images_part.ensures ▸ c.in_ok-put_entries_part.ensures
+    ▸ c.in_ok-put_lanes_part.ensures).is
     ∙ rw c.new-page.ensures refl
