@@ -15,7 +15,8 @@ use Rattle.mmi_registry.specs.Handlers.{chain_of}
 use Rattle.mm_core.specs.CoreState.{CoreState, Site}
 use Rattle.mm_core.specs.EntryStep.{core_step, entry_step}
 use Rattle.supervisor_calls.specs.Tables.{Live}
-use Rattle.mm_groups.specs.EntryLaws.{AreAlike, EntriesShareAlike, IsClosedIn, IsSound, ShareAlike, StepsStaySound}
+use Rattle.mm_groups.specs.Closed.{IsClosedIn}
+use Rattle.mm_groups.specs.EntryLaws.{AreAlike, EntriesShareAlike, IsSound, ShareAlike, StepsStaySound}
 use Rattle.mm_groups.specs.Share.{erased_core, projected, share_of}
 use Rattle.mm_groups.proofs.ChainLemmas.{found}
 use Rattle.mm_groups.proofs.EntryLemmas.{share_alike, states_alike, step_ready}

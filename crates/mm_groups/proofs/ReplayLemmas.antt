@@ -18,7 +18,8 @@ use Rattle.mm_base.specs.declared.entry.Request.{Request}
 use Rattle.mm_core.specs.CoreState.{CoreState, Site}
 use Rattle.mm_core.specs.EntryStep.{core_step, entry_step, shape_of}
 use Rattle.supervisor_calls.specs.Tables.{Live}
-use Rattle.mm_groups.specs.EntryLaws.{IsClosedIn, IsSound, ShareAlike, SharesStandAlone, shares_of}
+use Rattle.mm_groups.specs.Closed.{IsClosedIn}
+use Rattle.mm_groups.specs.EntryLaws.{IsSound, ShareAlike, SharesStandAlone, shares_of}
 use Rattle.mm_groups.specs.Share.{Share, erased_core, is_addressed, projected, share_of}
 use Rattle.mm_groups.proofs.CoreLemmas.{core_at, entries_share_alike, steps_stay_sound}
 

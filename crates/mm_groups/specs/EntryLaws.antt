@@ -1,7 +1,7 @@
 -- Laws of entries for a closed group, of one and of lists.
 use Rattle.std.specs.Prelude.{◌≡◌, ℕ, List, map, Some, slice_get}
 use Rattle.image_groups.specs.Erasing.{erase}
-use Rattle.image_groups.specs.Groups.{Group, IsClosed}
+use Rattle.image_groups.specs.Groups.{Group}
 use Rattle.image_groups.specs.RunLaws.{IsWhole}
 use Rattle.image_table.specs.declared.placed_image.PlacedImage.{PlacedImage}
 use Rattle.mm_base.specs.Replay.{outcomes}
@@ -12,6 +12,7 @@ use Rattle.mm_core.specs.EntryStep.{core_step}
 use Rattle.mmi_registry.specs.Registry.{IsNumbered}
 use Rattle.supervisor_calls.specs.Laws.{IsSite}
 use Rattle.supervisor_calls.specs.Tables.{Live}
+use Rattle.mm_groups.specs.Closed.{IsClosedIn}
 use Rattle.mm_groups.specs.Share.{Share, erased_core, projected, share_of}
 
 -- What a core keeps that a boot left or a script made: its images lie where they may, the numbers of its handlers rise, and where there is an
@@ -24,10 +25,6 @@ pub record IsSound (core : CoreState) : Type 0 where
 -- Each step keeps that.
 abbrev pub StepsStaySound : Type 0
 StepsStaySound = (core : CoreState) (request : Request) → IsSound core → IsSound (core_step core request).1
-
--- the group is closed in a core
-abbrev pub IsClosedIn : Group → Site → Type 0
-IsClosedIn group site = IsClosed group site.supervised site.handlers
 
 -- Two cores with one site that agree after erasing, and two requests that agree after projecting.
 pub record AreAlike (group : Group) (core other : CoreState) (request asked : Request) : Type 0 where

@@ -1,5 +1,6 @@
 -- What a boot comes to, and the names of images one after another.
-use Rattle.std.proofs.Common.{◌≡◌, ◌<◌, ℕ, zero, suc, ◌+◌, add-one, List, [], ◌∷◌, ◌++◌, length, map, take, Option, Result, Ok, Err, IfErr, refl, ap, ◌∙◌, arith}
+use Rattle.std.proofs.Common.{◌≡◌, ◌<◌, ℕ, zero, suc, ◌+◌, add-one, Bool, List, [], ◌∷◌, ◌++◌, length, map, take, Option, Result, Ok, Err, IfErr, refl, sym, ap, ◌∙◌, arith}
+use Rattle.std.proofs.lemmas.List.{length-map}
 use Rattle.std.specs.Result.{IsErrAnd}
 use Rattle.image_table.specs.ImageTable.{name_at}
 use Rattle.image_table.specs.declared.placed_image.PlacedImage.{PlacedImage}
@@ -10,6 +11,10 @@ use Rattle.mm_base.specs.declared.guid.Guid.{Guid}
 use Rattle.mm_base.specs.declared.policy.Policy.{Policy}
 use Rattle.mm_base.specs.declared.policy.PolicyFault.{PolicyFault}
 use Rattle.mm_base.specs.declared.volume.File.{File}
+use Rattle.mm_core.specs.CoreState.{CoreState}
+use Rattle.mm_groups.specs.Closed.{AreAloneClosed}
+use Rattle.mm_text.specs.declared.parts.Locked.{Locked}
+use Rattle.mm_run.specs.BootRun.{locked_in}
 use Rattle.mm_run.specs.Status.{status_of_policy}
 use Rattle.mm_run.specs.declared.status.Status.{Status}
 use Rattle.mm_run.specs.declared.status.Status.TheVariants.{NoMemory}
@@ -44,3 +49,10 @@ pub refused_known : {A : Type 0} (bytes : List ℕ) (files : List File) (policy 
     → IfErr result (λ status. status ≡ NoMemory out_of_memory)
 refused_known bytes files policy is end_of has (Ok made) told = tt
 refused_known bytes files policy is end_of has (Err status) told = told ∙ known bytes files policy is end_of has
+
+-- the flags of images stand beside their names
+pub flags_beside : (core : CoreState) (locked : Locked) (closed : List Bool) → locked ≡ locked_in core → AreAloneClosed core.site closed
+    → length closed ≡ length locked.names
+flags_beside core locked closed locked_is closed_are =
+    closed_are.count ∙ sym (length-map (λ (image : PlacedImage). image.name) core.site.supervised.images)
+    ∙ sym (ap (λ (l : Locked). length l.names) locked_is)

@@ -4,3 +4,4 @@ pub mod OneSourceLemmas
 pub mod RunLemmas
 pub mod ScriptLemmas
 pub mod ServeLemmas
+pub mod ShareLemmas

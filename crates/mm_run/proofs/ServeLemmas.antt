@@ -1,5 +1,5 @@
 -- What a run of `serve` comes to, which has two sources.
-use Rattle.std.proofs.Common.{◌≡◌, ◌⊎◌, inl, inr, ℕ, ◌+◌, All, List, [], ◌∷◌, length, false, Some, Option, Result, Ok, Err, IfErr, refl, sym, ap, ◌∙◌, subst}
+use Rattle.std.proofs.Common.{◌≡◌, ◌⊎◌, inl, inr, ℕ, ◌+◌, All, Bool, List, [], ◌∷◌, length, false, Some, Option, Result, Ok, Err, IfErr, refl, sym, ap, ◌∙◌, subst}
 use Rattle.std.specs.Result.{IsErrAnd}
 use Rattle.mm_base.specs.End.{EndsBy, out_of_memory}
 use Rattle.mm_base.specs.declared.end.End.{End}
@@ -18,6 +18,8 @@ use Rattle.comm_core.proofs.HeadlineLemmas.{pieces_told, headline_of}
 use Rattle.mm_core.specs.CoreState.{CoreState}
 use Rattle.mm_core.specs.EntryStep.{core_step}
 use Rattle.mm_core.specs.MachineLemmas.{core_step-within}
+use Rattle.mm_groups.specs.Closed.{AreAloneClosed}
+use Rattle.mm_run.proofs.BootLemmas.{flags_beside}
 use Rattle.mm_run.proofs.RunLemmas.{good_not_bad, refused_bytes, shown_by, stop_bad, stop_good, stop_not_usage, stop_writes_nothing}
 use Rattle.mm_run.specs.Run.{Reports}
 use Rattle.mm_run.specs.RunHeadline.{Drives, IsHeadlineOf, OfWorld}
@@ -214,17 +216,20 @@ served_so bytes volume policy script core parts made booted driven =
 
 -- what tells of a boot tells of its report
 pub booted_so : (bytes : List ℕ) (volume : Volume) (policy : Option Policy) (script : Script) (words : List FileWord) (boot : Boot) (locked : Locked)
-    → IsVolume bytes volume → AreWords bytes volume.files words → IsVolumePolicy bytes volume.files policy
+    (closed : List Bool) → IsVolume bytes volume → AreWords bytes volume.files words → IsVolumePolicy bytes volume.files policy
     → IsBoot bytes volume.files script.opening.cells boot → length words ≡ length volume.files → locked ≡ locked_in boot.core
+    → AreAloneClosed boot.core.site closed
     → IsBootedFor bytes volume policy script boot.core
-    (record { words = words; starts = boot.starts; waiting = boot.waiting; locked = locked })
-booted_so bytes volume policy script words boot locked is words_are policy_is boot_is each locked_is = record {
-  booting = record { volume = volume; words = words; policy = policy; boot = boot };
-  boots = record { is = is; words_are = words_are; policy_is = policy_is; boot_is = boot_is };
+    (record { words = words; starts = boot.starts; waiting = boot.waiting; locked = locked; closed = closed })
+booted_so bytes volume policy script words boot locked closed is words_are policy_is boot_is each locked_is closed_are = record {
+  booting = record { volume = volume; words = words; policy = policy; boot = boot; closed = closed };
+  boots = record { is = is; words_are = words_are; policy_is = policy_is; boot_is = boot_is; closed_are = closed_are };
   each = each;
+  flags = flags_beside boot.core locked closed locked_is closed_are;
   core_is = refl;
   told = λ entries lanes i.
-      parts_report volume policy (record { words = words; starts = boot.starts; waiting = boot.waiting; locked = locked_is i }) entries lanes;
+      parts_report volume policy
+      (record { words = words; starts = boot.starts; waiting = boot.waiting; locked = locked_is i; closed = closed }) entries lanes;
 }
 
 -- ---- what a result tells

@@ -4,6 +4,7 @@ pub mod Command
 pub mod Run
 pub mod RunHeadline
 pub mod RunInside
+pub mod RunShare
 pub mod RunWorld
 pub mod ScriptRun
 pub mod ServeInside

@@ -1,7 +1,9 @@
 -- No public clause cites this file.
 -- What the private functions of a run make of the bytes of a source.
-use Rattle.std.specs.Prelude.{◌≡◌, ◌⊎◌, ℕ, List, true, Some, None, slice_get}
+use Rattle.std.specs.Prelude.{◌≡◌, ◌⊎◌, ℕ, Bool, List, true, Option, Some, None, slice_get}
 use Rattle.mm_base.specs.End.{out_of_memory}
+use Rattle.file_words.specs.declared.file_word.FileWord.{FileWord}
+use Rattle.mm_base.specs.declared.policy.Policy.{Policy}
 use Rattle.mm_base.specs.declared.volume.Volume.{Volume}
 use Rattle.comm_core.specs.Capture.{trace_of}
 use Rattle.comm_core.specs.WorldPast.{StandsForEvents}
@@ -9,9 +11,11 @@ use Rattle.comm_core.specs.WorldState.{WorldState, lane_values}
 use Rattle.comm_core.specs.declared.script.Script.{Script}
 use Rattle.mm_core.specs.CoreState.{CoreState}
 use Rattle.mm_core.specs.EntryStep.{core_step}
+use Rattle.mm_core.specs.declared.booted.Boot.{Boot as BootValue}
+use Rattle.mm_groups.specs.Closed.{AreAloneClosed}
 use Rattle.mm_text.specs.ScriptText.{IsScript}
 use Rattle.volume_reader.specs.VolumeGrammar.{IsVolume}
-use Rattle.mm_run.specs.BootRun.{IsVolumeBootReport}
+use Rattle.mm_run.specs.BootRun.{IsVolumeBootReport, boot_report}
 use Rattle.mm_run.specs.CheckRun.{IsVolumeReport}
 use Rattle.mm_run.specs.ScriptRun.{core_of, past_of, entries_of, lanes_of, report_for}
 use Rattle.mm_run.specs.SourceKinds.{IsFaultyAs}
@@ -67,6 +71,12 @@ pub record IsReportOfBoot (bytes text : List ℕ) : Type 0 where
   pub volume : Volume
   pub is : IsVolume bytes volume
   pub report : IsVolumeBootReport bytes volume text
+
+-- This is the report of a boot of a volume, with what is known of it, and with whether the group of each of its images alone is closed.
+pub record IsBootText (volume : Volume) (words : List FileWord) (policy : Option Policy) (boot : BootValue) (text : List ℕ) : Type 0 where
+  pub closed : List Bool
+  pub closed_are : AreAloneClosed boot.core.site closed
+  pub reported : text ≡ boot_report volume words policy boot closed
 
 -- What was made of the bytes of a volume that is booted: the report of its boot, and no world.
 pub record IsMadeOfBoot (bytes : List ℕ) (made : Made) : Type 0 where

@@ -28,6 +28,7 @@ parts_report volume policy parts entries lanes =
       starts = Some parts.starts;
       waiting = Some parts.waiting;
       locked = Some parts.locked;
+      closed = Some parts.closed;
       entries = Some entries;
       lanes = Some lanes;
     })
@@ -38,6 +39,7 @@ pub record IsBootedFor (bytes : List ℕ) (volume : Volume) (policy : Option Pol
   pub booting : Booting
   pub boots : BootsFor bytes script booting
   pub each : length parts.words ≡ length volume.files
+  pub flags : length parts.closed ≡ length parts.locked.names
   pub core_is : core ≡ booting.boot.core
   pub told : (entries : List Entry) (lanes : List (List ℕ))
       → parts_report volume policy parts entries lanes ≡ served_report booting entries lanes

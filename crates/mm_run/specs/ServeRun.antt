@@ -1,6 +1,6 @@
 -- What a run of the program makes of a volume and a script: the volume is booted with the script's opening cells, and a world is driven
 -- through the script's events from the core that the boot leaves.
-use Rattle.std.specs.Prelude.{◌≡◌, ℕ, List, [], ◌∷◌, Option, Some, false}
+use Rattle.std.specs.Prelude.{◌≡◌, ℕ, Bool, List, [], ◌∷◌, Option, Some, false}
 use Rattle.comm_core.specs.declared.script.Script.{Script}
 use Rattle.file_words.specs.Catalog.{AreWords}
 use Rattle.file_words.specs.declared.file_word.FileWord.{FileWord}
@@ -10,6 +10,7 @@ use Rattle.mm_base.specs.declared.volume.Volume.{Volume}
 use Rattle.mm_core.specs.Boots.{IsBoot}
 use Rattle.mm_core.specs.CoreState.{CoreState}
 use Rattle.mm_core.specs.declared.booted.Boot.{Boot}
+use Rattle.mm_groups.specs.Closed.{AreAloneClosed}
 use Rattle.mm_text.specs.Report.{report_of, nothing_reported}
 use Rattle.mm_text.specs.ScriptText.{IsScript}
 use Rattle.mm_run.specs.BootRun.{locked_in}
@@ -24,12 +25,13 @@ pub record IsEventsOf (contents : List (List ℕ)) (script : Script) : Type 0 wh
   pub given : contents ≡ bytes ∷ events ∷ []
   pub says : IsScript false events script
 
--- a volume that was booted: what it is, the words of its files, its policy, and its boot
+-- a volume that was booted: what it is, the words of its files, its policy, its boot, and whether the group of each image alone is closed
 pub record Booting : Type 0 where
   pub volume : Volume
   pub words : List FileWord
   pub policy : Option Policy
   pub boot : Boot
+  pub closed : List Bool
 
 -- The volume in these bytes was booted so, with the opening cells of a script.
 pub record BootsFor (bytes : List ℕ) (script : Script) (booting : Booting) : Type 0 where
@@ -37,6 +39,7 @@ pub record BootsFor (bytes : List ℕ) (script : Script) (booting : Booting) : T
   pub words_are : AreWords bytes booting.volume.files booting.words
   pub policy_is : IsVolumePolicy bytes booting.volume.files booting.policy
   pub boot_is : IsBoot bytes booting.volume.files script.opening.cells booting.boot
+  pub closed_are : AreAloneClosed booting.boot.core.site booting.closed
 
 -- the report of a volume that was booted, and of entries and lanes
 abbrev pub served_report : Booting → List Entry → List (List ℕ) → List ℕ
@@ -48,6 +51,7 @@ served_report booting entries lanes =
       starts = Some booting.boot.starts;
       waiting = Some booting.boot.waiting;
       locked = Some (locked_in booting.boot.core);
+      closed = Some booting.closed;
       entries = Some entries;
       lanes = Some lanes;
     })

@@ -3,7 +3,7 @@ ghost use Rattle.std.specs.Prelude.{◌≡◌, ◌≤◌, map, IfOk, IfErr, leng
 ghost use Rattle.std.specs.Option.{option_copied};
 ghost use Rattle.mm_base.specs.End.{out_of_memory};
 ghost use Rattle.mm_run.specs.BootRun.{boot_report, locked_in, IsVolumeBootReport};
-ghost use Rattle.mm_run.specs.RunInside.{IsMadeOfBoot, RefusesBytes};
+ghost use Rattle.mm_run.specs.RunInside.{IsBootText, IsMadeOfBoot, RefusesBytes};
 ghost use Rattle.mm_run.specs.declared.source_kind.SourceKind.TheVariants.{VolumeBytes};
 ghost use Rattle.volume_policy.specs.PolicyFiles.{IsVolumePolicy};
 ghost use Rattle.volume_reader.specs.VolumeGrammar.{IsVolume};
@@ -11,6 +11,7 @@ ghost use Rattle.volume_reader.specs.VolumeGrammar.{IsVolume};
 use crate::made::Made;
 use crate::status::Status;
 use mm_base::{Bytes, Guid, List, NoMemory, Opening, Policy, Volume};
+use mm_groups::each_alone_closed;
 use mm_core::{Boot, Core, FileWord, boot, catalog, policy_of};
 use mm_text::{Locked, Parts, report};
 use std::alloc::Global;
@@ -70,7 +71,7 @@ fn boot_text(
     boot: Boot,
 ) -> Result<Bytes, NoMemory>
     requires { length words.now ≡ length volume.now.files }
-    ensures { IfOk result (λ text. text ≡ boot_report volume.now words.now (option_copied policy.entry) boot) }
+    ensures { IfOk result (IsBootText volume.now words.now (option_copied policy.entry) boot) }
 {
     boot_listed(alloc, volume, words, policy, &boot)
 }
@@ -84,13 +85,14 @@ fn boot_listed(
     boot: &Boot,
 ) -> Result<Bytes, NoMemory>
     requires { length words.now ≡ length volume.now.files }
-    ensures { IfOk result (λ text. text ≡ boot_report volume.now words.now (option_copied policy.entry) boot.now) }
+    ensures { IfOk result (IsBootText volume.now words.now (option_copied policy.entry) boot.now) }
 {
     let locked = locked_now(alloc, &boot.core)?;
-    boot_told(alloc, volume, words, policy, boot, &locked)
+    let closed = each_alone_closed(alloc, &boot.core)?;
+    boot_told(alloc, volume, words, policy, boot, &locked, &closed)
 }
 
-/// The report of a boot, whose core has this at lock.
+/// The report of a boot, whose core has this at lock, and whose images alone are closed so.
 fn boot_told<'a>(
     alloc: Global,
     volume: &'a Volume,
@@ -98,10 +100,12 @@ fn boot_told<'a>(
     policy: Option<&'a Policy>,
     boot: &'a Boot,
     locked: &'a Locked,
+    closed: &'a List<bool>,
 ) -> Result<Bytes, NoMemory>
     requires words { length words.now ≡ length volume.now.files }
     requires locked { locked.now ≡ locked_in boot.now.core }
-    ensures { IfOk result (λ text. text ≡ boot_report volume.now words.now (option_copied policy.entry) boot.now) }
+    requires flags { length closed.now ≡ length locked.now.names }
+    ensures { IfOk result (λ text. text ≡ boot_report volume.now words.now (option_copied policy.entry) boot.now closed.now) }
 {
     let parts = Parts {
         volume: Some(volume),
@@ -110,6 +114,7 @@ fn boot_told<'a>(
         starts: Some(&boot.starts),
         waiting: Some(&boot.waiting),
         locked: Some(locked),
+        closed: Some(closed),
         ..Parts::none()
     };
     report(alloc, &parts)

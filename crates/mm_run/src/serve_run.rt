@@ -15,6 +15,7 @@ use crate::script_run::world_from;
 use crate::status::Status;
 use comm_core::Script;
 use mm_base::{Bytes, Entries, Guid, List, NoMemory, Policy, Volume};
+use mm_groups::each_alone_closed;
 use mm_core::{Boot, Core, FileWord, StartRecord, boot, catalog};
 use mm_text::{Locked, Parts, report};
 use std::alloc::Global;
@@ -26,6 +27,7 @@ pub(crate) struct BootParts {
     pub(crate) starts: List<StartRecord>,
     pub(crate) waiting: List<Guid>,
     pub(crate) locked: Locked,
+    pub(crate) closed: List<bool>,
 }
 
 /// The report of a volume, whose policy is known, and of the world that the script drives from the core which the volume's boot leaves,
@@ -70,6 +72,7 @@ fn booted(
         waiting,
     } = boot(alloc, bytes, volume, &script.opening)?;
     let locked = locked_now(alloc, &core)?;
+    let closed = each_alone_closed(alloc, &core)?;
     Ok((
         core,
         BootParts {
@@ -77,6 +80,7 @@ fn booted(
             starts,
             waiting,
             locked,
+            closed,
         },
     ))
 }
@@ -91,6 +95,7 @@ fn driven_from(
     script: &Script,
 ) -> Result<Made, NoMemory>
     requires words { length parts.now.words ≡ length volume.now.files }
+    requires closed { length parts.now.closed ≡ length parts.now.locked.names }
     requires limits { IsWithinLimits script.now }
     ensures { IfOk result (IsDrivenFrom core script.now volume.now (option_copied policy.entry) parts.now) }
 {
@@ -113,6 +118,7 @@ fn told<'a>(
     lanes: &'a List<List<u64>>,
 ) -> Result<Bytes, NoMemory>
     requires words { length parts.now.words ≡ length volume.now.files }
+    requires closed { length parts.now.closed ≡ length parts.now.locked.names }
     requires lanes { All (λ lane. 2 ≤ length lane) lanes.now }
     ensures { IfOk result (λ text. text ≡ parts_report volume.now (option_copied policy.entry) parts.now entries.now lanes.now) }
 {
@@ -123,7 +129,7 @@ fn told<'a>(
         starts: Some(&parts.starts),
         waiting: Some(&parts.waiting),
         locked: Some(&parts.locked),
-        closed: None,
+        closed: Some(&parts.closed),
         entries: Some(entries),
         lanes: Some(lanes),
     };

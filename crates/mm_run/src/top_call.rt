@@ -8,6 +8,7 @@ ghost use Rattle.mm_run.specs.Command.{command_of as command_of_words, drives};
 ghost use Rattle.mm_run.specs.Run.{Reports};
 ghost use Rattle.mm_run.specs.RunHeadline.{IsHeadlineOf, OfWorld};
 ghost use Rattle.mm_run.specs.RunInside.{both_sources, one_source, HasOneSource, IsMade};
+ghost use Rattle.mm_run.specs.RunShare.{IsSharedOut};
 ghost use Rattle.mm_run.specs.RunWorld.{StandsForScript};
 ghost use Rattle.mm_run.specs.ServeInside.{IsMadeOfBoth, IsMadeWith};
 ghost use Rattle.mm_run.specs.Sources.{seen, source as source_of, sources, sources_of, sources_named};
@@ -98,6 +99,14 @@ pub fn run<V: Source, S: Source, K: Sink>(
     ensures stands { (command : CommandValue) → command_of_words words.now.items ≡ Some command →
         drives command ≡ true → writes result.status ≡ true →
         OfWorld (StandsForScript command (sources (sources_of command)
+        (seen V.left V.fault_count first.old first.new) (seen S.left S.fault_count second.old second.new)))
+        result.world }
+
+    // Each group of images that is closed at lock gets of the recorded entries what the core gives where everything that isn't
+    // granted to the group is erased, on what the group may learn of each request.
+    ensures share { (command : CommandValue) → command_of_words words.now.items ≡ Some command →
+        drives command ≡ true → writes result.status ≡ true →
+        OfWorld (IsSharedOut command (sources (sources_of command)
         (seen V.left V.fault_count first.old first.new) (seen S.left S.fault_count second.old second.new)))
         result.world }
     ensures no_world { has_no_world result.status ≡ true → result.world ≡ None }

@@ -15,5 +15,5 @@ returns-in_err-core-clause-err c =
 pub returns-clause-ok : goal.returns-clause-ok
 returns-clause-ok c =
     booted_so c.args.bytes.now c.args.volume.now (option_copied c.args.policy) c.args.script.now c.in_ok-words.words c.in_ok-core.field-0
-    c.in_ok-locked.locked c.requires.volume c.in_ok-words.ensures.words c.requires.policy c.in_ok-core.ensures.boot
-    c.in_ok-words.ensures.one_each c.in_ok-locked.ensures
+    c.in_ok-locked.locked c.in_ok-closed.closed c.requires.volume c.in_ok-words.ensures.words c.requires.policy c.in_ok-core.ensures.boot
+    c.in_ok-words.ensures.one_each c.in_ok-locked.ensures c.in_ok-closed.ensures

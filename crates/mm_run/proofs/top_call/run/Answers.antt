@@ -5,11 +5,13 @@ use Rattle.mm_io.specs.Streams.{Appends, AppendsFront}
 use Rattle.mm_run.specs.Command.{drives}
 use Rattle.mm_run.specs.Run.{Reports}
 use Rattle.mm_run.specs.RunHeadline.{IsHeadlineOf, OfWorld}
+use Rattle.mm_run.specs.RunShare.{IsSharedOut}
 use Rattle.mm_run.specs.RunWorld.{StandsForScript}
 use Rattle.mm_run.specs.Sources.{NamedSource, RunStops, AllHoldGood, FirstBad}
 use Rattle.mm_run.specs.declared.command.Command.{Command}
 use Rattle.mm_run.specs.declared.status.Status.TheVariants.{Done, NoMemory}
 use Rattle.mm_run.proofs.RunLemmas.{none_unnamed, of_command, serve_drives, served_all, served_both, untouched_by_command, untouched_by_none}
+use Rattle.mm_run.proofs.ShareLemmas.{shared_by}
 use Rattle.mm_run.proofs.top_call.run.Goals as goal
 
 pub returns-in-None-source-clause-refusal : goal.returns-in-None-source-clause-refusal
@@ -65,6 +67,15 @@ returns-in-None-source-clause-stands g c = λ command form is wrote.
     drives command ≡ true → OfWorld (StandsForScript command all) c.serve_one.result.world in
     served_all P c.args.words.now.items c.as_slice.result.now c.in-Some.command command _ _ c.in-Some.ensures
     c.as_slice.ensures.value form (sym c.in-None-source.ensures) (λ is. c.serve_one.ensures.stands is wrote) is
+
+pub returns-in-None-source-clause-share : goal.returns-in-None-source-clause-share
+returns-in-None-source-clause-share g c = λ command form is wrote.
+    let P : Command → List NamedSource → Type 0 = λ command all.
+    drives command ≡ true → OfWorld (IsSharedOut command all) c.serve_one.result.world in
+    served_all P c.args.words.now.items c.as_slice.result.now c.in-Some.command command _ _ c.in-Some.ensures
+    c.as_slice.ensures.value form (sym c.in-None-source.ensures)
+    (λ is. shared_by _ _ (g.K.Sink.written c.args.out.now) (g.K.Sink.written c.serve_one.new.out) c.serve_one.result.status c.serve_one.result.world
+    (c.serve_one.ensures.headline is wrote)) is
 
 pub returns-in-None-source-clause-worldless : goal.returns-in-None-source-clause-worldless
 returns-in-None-source-clause-worldless g c = λ command form.
@@ -133,6 +144,15 @@ returns-in-Some-source-clause-stands g c = λ command form is wrote.
     drives command ≡ true → OfWorld (StandsForScript command all) c.serve_both.result.world in
     served_both P c.args.words.now.items c.as_slice.result.now c.in-Some.command command _ _ _ c.in-Some.ensures
     c.as_slice.ensures.value form c.in-Some-source.ensures (λ is. c.serve_both.ensures.stands wrote) is
+
+pub returns-in-Some-source-clause-share : goal.returns-in-Some-source-clause-share
+returns-in-Some-source-clause-share g c = λ command form is wrote.
+    let P : Command → List NamedSource → Type 0 = λ command all.
+    drives command ≡ true → OfWorld (IsSharedOut command all) c.serve_both.result.world in
+    served_both P c.args.words.now.items c.as_slice.result.now c.in-Some.command command _ _ _ c.in-Some.ensures
+    c.as_slice.ensures.value form c.in-Some-source.ensures
+    (λ is. shared_by _ _ (g.K.Sink.written c.args.out.now) (g.K.Sink.written c.serve_both.new.out) c.serve_both.result.status c.serve_both.result.world
+    (c.serve_both.ensures.headline wrote)) is
 
 pub returns-in-Some-source-clause-worldless : goal.returns-in-Some-source-clause-worldless
 returns-in-Some-source-clause-worldless g c = λ command form none.
