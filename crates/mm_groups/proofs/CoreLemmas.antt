@@ -8,6 +8,7 @@ use Rattle.image_groups.specs.Reach.{is_touched}
 use Rattle.image_groups.specs.Laws.{Facts}
 use Rattle.image_groups.specs.RunLaws.{IsWhole}
 use Rattle.image_table.specs.declared.placed_image.PlacedImage.{PlacedImage}
+use Rattle.mm_base.specs.declared.entry.Outcome.{Outcome}
 use Rattle.mm_base.specs.declared.entry.Request.{Request}
 use Rattle.mm_base.specs.declared.handler.HandlerBody.{HandlerBody}
 use Rattle.mm_base.specs.declared.handler.HandlerBody.TheVariants.{Version, Stub, Code}
@@ -94,3 +95,20 @@ steps_stay_sound core request sound =
       numbered = sound.numbered;
       whole = step_ready nobody core.site sound.placed facts (nobody_closed core.site).alike (found core.site.handlers sound.numbered.rising) request core.live sound.whole;
     }
+
+-- ---- two cores that stepped
+
+module _ (group : Group) (left right after later : CoreState) (request asked : Request) (first second : Outcome)
+    (first_is : first ≡ (core_step left request).0) (second_is : second ≡ (core_step right asked).0)
+    (after_is : after ≡ (core_step left request).1) (later_is : later ≡ (core_step right asked).1) where
+  pub stepped_share : IsSound left → IsSound right → IsClosedIn group left.site → AreAlike group left right request asked
+      → share_of group left.site first ≡ share_of group left.site second
+  stepped_share sound whole closed alike =
+      ap (share_of group left.site) first_is ∙ (entries_share_alike group left right request asked sound whole closed alike).share
+      ∙ ap (share_of group left.site) (sym second_is)
+
+  pub stepped_erased : IsSound left → IsSound right → IsClosedIn group left.site → AreAlike group left right request asked
+      → erased_core group after ≡ erased_core group later
+  stepped_erased sound whole closed alike =
+      ap (erased_core group) after_is ∙ (entries_share_alike group left right request asked sound whole closed alike).cores
+      ∙ ap (erased_core group) (sym later_is)

@@ -1,6 +1,8 @@
 //! Laws of entries for closed groups of images. These functions do nothing: their contracts are the laws.
 ghost use Rattle.mm_groups.specs.EntryLaws.{EntriesShareAlike, SharesStandAlone, StepsStaySound};
 
+pub use crate::two_cores::step_erased;
+
 /// A core whose images lie where they may, whose handlers' numbers rise, and whose memory and cells are whole, stays so at each step.
 pub fn steps_stay_sound()
     ensures { StepsStaySound }
