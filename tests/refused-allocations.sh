@@ -1,9 +1,10 @@
 #!/usr/bin/env bash
 # Refuses each allocation of one run of the built program (its path is the first argument; without one it is that which `rt ci` leaves), one
 # at a time: `serve` on the sample volume and a request that its driver's handler is denied a port for. A shared object, written and compiled
-# here and preloaded, answers null to the n-th call of malloc, calloc, realloc, aligned_alloc or posix_memalign alone. Each run must end
-# with status 7, write nothing to standard output and say just that memory was refused; or, where the call is one that the C library can do
-# without, end with 0 and the whole report. It prints how many did which, and fails where one did neither, or where none ended with 7.
+# here and preloaded, answers null to the n-th call of malloc, calloc, realloc, aligned_alloc or posix_memalign: first to that and all later
+# ones, where each run must end with status 7, write nothing to standard output and say just that memory was refused. Then to that one alone,
+# where a run may also end with 0 and the whole report: std's `extend` asks for room by a hint, and where that is refused, asks for less.
+# It prints how many did which, and fails where one did neither, or where none ended with 7.
 set -u
 top=$(cd "$(dirname "$0")/.." && pwd)
 program=${1:-$top/crates/mm_main/out/mm_main}
@@ -16,7 +17,8 @@ folder=$(mktemp -d)
 trap 'rm -rf "$folder"' EXIT
 cd "$folder" || exit 1
 
-# The object counts the calls; at the one that it refuses it makes the file that MARK names.
+# The object counts the calls. It refuses the one with the number FAIL_AT, where FAIL_ON is set the later ones too, and makes the file that
+# MARK names then.
 cat > refusing.c << 'END'
 #include <errno.h>
 #include <fcntl.h>
@@ -33,7 +35,8 @@ static unsigned long calls;
 static int is_refused(void) {
     const char *fail_at = getenv("FAIL_AT");
     unsigned long call = __atomic_add_fetch(&calls, 1, __ATOMIC_SEQ_CST);
-    if (fail_at == NULL || call != strtoul(fail_at, NULL, 10)) return 0;
+    unsigned long first = fail_at == NULL ? 0 : strtoul(fail_at, NULL, 10);
+    if (first == 0 || call < first || (call > first && getenv("FAIL_ON") == NULL)) return 0;
     const char *mark = getenv("MARK");
     if (mark != NULL) close(open(mark, O_CREAT | O_WRONLY, 0600));
     errno = ENOMEM;
@@ -79,25 +82,36 @@ run() {
     status=$?
 }
 
+# refuse_all: makes the run with each call refused, and counts the ends.
+refuse_all() {
+    refused=0
+    whole=0
+    call=1
+    while run "$call"; [ -e mark ]; do
+        if [ "$status" = 7 ] && [ ! -s said.out ] && [ "$(cat said.err)" = 'mm_main: memory was refused' ]; then
+            refused=$((refused + 1))
+        elif [ "$status" = 0 ] && cmp -s said.out denied.report && [ ! -s said.err ]; then
+            whole=$((whole + 1))
+        else
+            failed=1
+            echo "refused-allocations.sh: with call $call refused it ended with $status, $(wc -c < said.out) bytes, and '$(cat said.err)'" >&2
+        fi
+        call=$((call + 1))
+    done
+    [ "$refused" != 0 ] || failed=1
+}
+
+failed=0
 run 0
 if [ "$status" != 0 ] || ! cmp -s said.out denied.report; then
     echo "refused-allocations.sh: without a refusal the run ended with $status" >&2
     exit 1
 fi
-refused=0
-whole=0
-failed=0
-call=1
-while run "$call"; [ -e mark ]; do
-    if [ "$status" = 7 ] && [ ! -s said.out ] && [ "$(cat said.err)" = 'mm_main: memory was refused' ]; then
-        refused=$((refused + 1))
-    elif [ "$status" = 0 ] && cmp -s said.out denied.report && [ ! -s said.err ]; then
-        whole=$((whole + 1))
-    else
-        failed=$((failed + 1))
-        echo "refused-allocations.sh: with call $call refused it ended with $status, $(wc -c < said.out) bytes, and '$(cat said.err)'" >&2
-    fi
-    call=$((call + 1))
-done
-echo "refused-allocations.sh: of $((call - 1)) calls $refused ended with status 7 and nothing written, $whole with 0 and the whole report"
-[ "$failed" = 0 ] && [ "$refused" != 0 ]
+export FAIL_ON=1
+refuse_all
+[ "$whole" = 0 ] || failed=1
+echo "refused-allocations.sh: refused from one on, of $((call - 1)) calls, $refused ended with status 7 and nothing written, $whole with 0"
+unset FAIL_ON
+refuse_all
+echo "refused-allocations.sh: refused alone, of $((call - 1)) calls, $refused ended with status 7 and nothing written, $whole with 0 and the whole report"
+exit "$failed"
