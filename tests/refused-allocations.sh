@@ -3,7 +3,7 @@
 # at a time: `serve` on the sample volume and a request that its driver's handler is denied a port for. A shared object, written and compiled
 # here and preloaded, answers null to the n-th call of malloc, calloc, realloc, aligned_alloc or posix_memalign: first to that and all later
 # ones, where each run must end with status 7, write nothing to standard output and say just that memory was refused. Then to that one alone,
-# where a run may also end with 0 and the whole report: std's `extend` asks for room by a hint, and where that is refused, asks for less.
+# where a run may also end with 0 and the whole report: std's `extend` asks for room by a hint, and where that is refused, for one element.
 # It prints how many did which, and fails where one did neither, or where none ended with 7.
 set -u
 top=$(cd "$(dirname "$0")/.." && pwd)
