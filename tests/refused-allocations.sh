@@ -67,6 +67,7 @@ printf '%s\n' \
     'policy none fuel 65536' \
     'start aaaaaaaa-0000-0000-0000-000000000001 round 1 returned 0000000000000000' \
     'locked images 1 handlers 1 protocols 0' \
+    'image 0 aaaaaaaa-0000-0000-0000-000000000001 closed' \
     'entry 0 lane 0 loads 5 status 800000000000000e' \
     "  request 0000000000000020 $message" \
     '  dispatched 11111111-2222-3333-4444-555555555555' \

@@ -53,6 +53,7 @@ pub const ONE_MESSAGE: &[u8] =
 pub const ONE_BOOTED: &[u8] = b"policy none fuel 65536
 start 76697264-7265-6e20-756d-626572203031 round 1 returned 0000000000000000
 locked images 1 handlers 1 protocols 0
+image 0 76697264-7265-6e20-756d-626572203031 closed
 ";
 
 /// What is told of a boot of two drivers, each of which registers a handler.
@@ -60,6 +61,8 @@ pub const TWO_BOOTED: &[u8] = b"policy none fuel 65536
 start 76697264-7265-6e20-756d-626572203031 round 1 returned 0000000000000000
 start 76697264-7265-6e20-756d-626572203032 round 1 returned 0000000000000000
 locked images 2 handlers 2 protocols 0
+image 0 76697264-7265-6e20-756d-626572203031 open
+image 1 76697264-7265-6e20-756d-626572203032 open
 ";
 
 /// How that entry begins where it is answered SUCCESS, and where it is answered NOT_FOUND.

@@ -219,6 +219,8 @@ const SPENDER_CASES: &[Case] = &[Case {
 start 76697264-7265-6e20-756d-626572203031 round 1 returned 0000000000000000
 start 76697264-7265-6e20-756d-626572203032 round 1 returned 0000000000000000
 locked images 2 handlers 2 protocols 0
+image 0 76697264-7265-6e20-756d-626572203031 open
+image 1 76697264-7265-6e20-756d-626572203032 open
 ",
         SERVED,
         b"  handler 0 fuel at 000000008000013c

@@ -212,6 +212,7 @@ const PAST_CASES: &[Case] = &[
             b"policy none fuel 65536
 start 76697264-7265-6e20-756d-626572203031 round 1 returned 0000000000000000
 locked images 1 handlers 2 protocols 0
+image 0 76697264-7265-6e20-756d-626572203031 closed
 ",
             SERVED,
             b"  handler 0 returned 0000000000000007

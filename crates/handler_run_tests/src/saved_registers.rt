@@ -45,6 +45,7 @@ const READS_ALL: Section = (
 const RULED_BOOTED: &[u8] = b"policy rules 1 fuel 65536
 start 76697264-7265-6e20-756d-626572203031 round 1 returned 0000000000000000
 locked images 1 handlers 1 protocols 0
+image 0 76697264-7265-6e20-756d-626572203031 closed
 ";
 
 /// Two entries of a message of 152 bytes, the second without saved registers.
@@ -193,6 +194,7 @@ const DENIED_CASES: &[Case] = &[
             b"policy rules 1 fuel 65536
 start 76697264-7265-6e20-756d-626572203032 round 1 returned 0000000000000000
 locked images 1 handlers 1 protocols 0
+image 0 76697264-7265-6e20-756d-626572203032 closed
 ",
             REGISTER_REQUEST,
             b"  handler 0 denied norule at 0000000000000007
