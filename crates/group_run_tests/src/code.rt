@@ -8,8 +8,14 @@ use sample_volumes::{Contents, Driver, Piece, Section, TRUE};
 /// The place of the code in the image.
 pub const CODE: usize = 0x100;
 
+/// The GUID 11111111-2222-3333-4444-555555555555, which the sample image registers its handler for, as it is stored.
+const FIRST_GUID: &[u8] = b"\x11\x11\x11\x11\x22\x22\x33\x33\x44\x44\x55\x55\x55\x55\x55\x55";
+
+/// The GUID 22222222-3333-4444-5555-666666666666.
+pub const SECOND_GUID: &[u8] = b"\x22\x22\x22\x22\x33\x33\x44\x44\x55\x55\x66\x66\x66\x66\x66\x66";
+
 /// RET, with a result of 0.
-const RETURNS: Section = (0x10, Contents::Image(336, &[(CODE, b"\x04\0")]));
+pub const RETURNS: Section = (0x10, Contents::Image(336, &[(CODE, b"\x04\0")]));
 
 /// Two drivers that do nothing.
 pub const QUIET_PAIR: &[Driver] = &[
@@ -17,36 +23,20 @@ pub const QUIET_PAIR: &[Driver] = &[
     (b"driver number 02", &[TRUE, RETURNS]),
 ];
 
-/// The sample image, which registers a handler that reads port 70 (hexadecimal), with another GUID,
-/// 22222222-3333-4444-5555-666666666666, and port 72.
+/// The sample image, which registers a handler that reads port 70 (hexadecimal), with the second GUID and port 72.
 pub const READS_72: Section = (
     0x10,
-    Contents::Image(
-        336,
-        &[
-            (0x12a, b"\x72"),
-            (
-                0x140,
-                b"\x22\x22\x22\x22\x33\x33\x44\x44\x55\x55\x66\x66\x66\x66\x66\x66",
-            ),
-        ],
-    ),
+    Contents::Image(336, &[(0x12a, b"\x72"), (0x140, SECOND_GUID)]),
 );
 
 /// The place of a handler's code, after that of an entry which registers it. It has place for 46 bytes.
 pub const HANDLER: usize = 0x122;
 
-/// The GUID 11111111-2222-3333-4444-555555555555 in the image's header, at a place that no loader reads.
-pub const NAMED_1: Piece = (
-    0x10,
-    b"\x11\x11\x11\x11\x22\x22\x33\x33\x44\x44\x55\x55\x55\x55\x55\x55",
-);
+/// The first GUID in the image's header, at a place that no loader reads.
+pub const NAMED_1: Piece = (0x10, FIRST_GUID);
 
-/// The GUID 22222222-3333-4444-5555-666666666666 there.
-pub const NAMED_2: Piece = (
-    0x10,
-    b"\x22\x22\x22\x22\x33\x33\x44\x44\x55\x55\x66\x66\x66\x66\x66\x66",
-);
+/// The second GUID there.
+pub const NAMED_2: Piece = (0x10, SECOND_GUID);
 
 /// An entry that registers the handler for the GUID in the header, and returns the status that it is answered. It spends 13 units.
 pub const REGISTERS: Piece = (

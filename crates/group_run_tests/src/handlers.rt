@@ -1,6 +1,6 @@
 //! Handlers of two images for one GUID, for other GUIDs, and for none. What is expected was worked out by hand from the formats.
 use crate::cases::{Case, first_wrong};
-use crate::code::{CODE, NAMED_1, READS_72};
+use crate::code::{CODE, NAMED_1, READS_72, SECOND_GUID};
 use sample_volumes::{Contents, NO_RULES, SOUND, Section, TRUE};
 use std::test::Fail;
 
@@ -21,17 +21,14 @@ const ROOT: Section = (
     ),
 );
 
-/// Registers a handler, which returns 0, for the GUIDs of the sample image and of `READS_72`.
+/// Registers a handler, which returns 0, for either GUID.
 const TWO_GUIDS: Section = (
     0x10,
     Contents::Image(
         336,
         &[
             NAMED_1,
-            (
-                0x20,
-                b"\x22\x22\x22\x22\x33\x33\x44\x44\x55\x55\x66\x66\x66\x66\x66\x66",
-            ),
+            (0x20, SECOND_GUID),
             // R1 = @R0(+24), the service page; PUSH64 R5, a cell; R4 = R0; PUSH64 R4, where the number goes
             (CODE, b"\x60\x81\x18\0\x6b\x05\x20\x04\x6b\x04"),
             // R2 = the first GUID, 254 bytes back; PUSH64 R2; R2 = the handler, 24 bytes on; PUSH64 R2

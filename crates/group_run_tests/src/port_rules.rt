@@ -1,7 +1,7 @@
 //! Rules over ports of two images without handlers: an image is open where the other one may write what it may read or write, and the first
 //! rule about a port decides. Ports are hexadecimal. What is expected was worked out by hand from the formats.
 use crate::cases::{BOTH_CLOSED, BOTH_OPEN, Case, FIRST_OPEN, SECOND_OPEN, first_wrong};
-use crate::code::{CODE, QUIET_PAIR};
+use crate::code::{CODE, QUIET_PAIR, RETURNS};
 use crate::rules::{
     ALL_USE_70, FIRST_READS_70_71, FIRST_WRITES_70_71, ONE, SECOND_READS_71_72,
     SECOND_WRITES_71_72, THREE, TWO,
@@ -245,9 +245,6 @@ const LAST_PORT: &[u8] =
 
 /// BREAK 0.
 const BREAKS: Section = (0x10, Contents::Image(336, &[(CODE, b"\0\0")]));
-
-/// RET, with a result of 0.
-const RETURNS: Section = (0x10, Contents::Image(336, &[(CODE, b"\x04\0")]));
 
 /// The driver that may write is withdrawn.
 const WITHDRAWN: &[Driver] = &[

@@ -2,7 +2,7 @@
 //! stands at 20, the next one at 60, and so on. A rule is its kind, what it does, its rights, its owner, where it begins and its length.
 //! Ports are hexadecimal.
 
-/// The head of a policy of so many rules that gives 65,536 of fuel. With it the section has 60 bytes, or 100, or 140.
+/// The heads of policies of one rule, two and three, which give 65,536 of fuel. The sections have 60 bytes, 100 and 140.
 pub const ONE: &[u8] = b"\x3c\0\0\x19MMSP\x01\0\0\0\x01\0\0\0\0\0\x01\0";
 
 pub const TWO: &[u8] = b"\x64\0\0\x19MMSP\x01\0\0\0\x02\0\0\0\0\0\x01\0";
