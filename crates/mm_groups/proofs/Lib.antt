@@ -1,0 +1,4 @@
+pub mod ClosedStub
+pub mod FlagLemmas
+pub mod LoneLemmas
+pub mod WalkLemmas

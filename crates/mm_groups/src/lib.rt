@@ -1,0 +1,10 @@
+//! Floor: core. It promises which groups of a core's images are closed. It never changes a core.
+#![tactic(auto)]
+
+mod closed_group;
+mod handlers;
+mod lone_images;
+mod touching;
+
+pub use closed_group::is_closed;
+pub use lone_images::each_alone_closed;
