@@ -1,7 +1,6 @@
 -- No public clause cites this file.
 -- Whether a group is closed, by tests: the handlers are compared two by two, and units are looked at where the ends of ranges are.
 use Rattle.std.specs.Prelude.{ℕ, Bool, true, false, ◌&&◌, ◌||◌, not, List, Option, Some, None}
-use Rattle.std.specs.Bool.{bool_eq}
 use Rattle.std.specs.List.{list_all}
 use Rattle.mm_base.specs.Guid.{same_guid}
 use Rattle.mm_base.specs.declared.access.Kind.{Kind}
@@ -32,10 +31,15 @@ have_one_guid None other = false
 have_one_guid (Some guid) None = false
 have_one_guid (Some guid) (Some other) = same_guid guid other
 
+-- whether both are true or both are false
+abbrev pub are_same : Bool → Bool → Bool
+are_same true other = other
+are_same false other = not other
+
 -- whether two handlers are both the group's or both not, where they were registered for one GUID
 abbrev pub is_alike_with : Group → Handler → Handler → Bool
 is_alike_with group handler other =
-    not (have_one_guid handler.guid other.guid) || bool_eq (is_handler_of group handler) (is_handler_of group other)
+    not (have_one_guid handler.guid other.guid) || are_same (is_handler_of group handler) (is_handler_of group other)
 
 abbrev pub are_alike : Group → List Handler → Bool
 are_alike group handlers = list_all (λ handler. list_all (is_alike_with group handler) handlers) handlers

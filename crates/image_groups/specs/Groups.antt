@@ -1,5 +1,5 @@
 -- Groups of images, what is granted to them, and which of them are closed. This is this project's own.
-use Rattle.std.specs.Prelude.{◌≡◌, ◌≢◌, ◌⊎◌, ℕ, Bool, true, false, ◌&&◌, ◌==◌, List, length, All, Some}
+use Rattle.std.specs.Prelude.{◌≡◌, ◌≢◌, ◌⊎◌, ℕ, ◌<◌, Bool, true, false, ◌&&◌, ◌==◌, List, length, All, Some}
 use Rattle.std.specs.List.{list_any, range_with_len}
 use Rattle.mm_base.specs.declared.access.Kind.{Kind}
 use Rattle.mm_base.specs.declared.access.Kind.TheVariants.{Saved}
@@ -52,9 +52,9 @@ AreAlike group handlers guid =
     ⊎ All (λ handler. is_handler_of group handler ≡ false) (chain_of (Some guid) handlers)
 
 -- A group is closed where no GUID is shared with a handler that isn't the group's, and where no byte of memory, no port and no
--- model-specific register that an image outside may write is granted to the group. Saved registers are written by nobody, and don't
--- count. What the group writes and others may read isn't limited.
+-- model-specific register that an image outside may write is granted to the group. Images are those that are there: a number that no
+-- image has is nobody's. Saved registers are written by nobody, and don't count. What the group writes and others may read isn't limited.
 pub record IsClosed (group : Group) (site : Site) (handlers : List Handler) : Type 0 where
   pub alike : (guid : Guid) → AreAlike group handlers guid
-  pub apart : (image : ℕ) (kind : Kind) (unit : ℕ) → kind ≢ Saved → group image ≡ false
+  pub apart : (image : ℕ) (kind : Kind) (unit : ℕ) → image < length site.images → kind ≢ Saved → group image ≡ false
       → reach site image kind unit Write ≡ true → granted group site kind unit ≡ false

@@ -1,5 +1,5 @@
 -- Laws of what images may reach, and of groups. Images lie where they may (IsSite).
-use Rattle.std.specs.Prelude.{◌≡◌, ◌≢◌, ◌≤◌, ℕ, true, false, List, Some, slice_get}
+use Rattle.std.specs.Prelude.{◌≡◌, ◌≢◌, ◌<◌, ◌≤◌, ℕ, true, false, List, length, Some, slice_get}
 use Rattle.image_table.specs.declared.placed_image.PlacedImage.{PlacedImage}
 use Rattle.mm_base.specs.Range.{Has}
 use Rattle.mm_base.specs.declared.access.Kind.{Kind}
@@ -18,7 +18,7 @@ use Rattle.supervisor_calls.specs.Tables.{Site}
 use Rattle.image_groups.specs.Ends.{ends_of, last_up_to}
 use Rattle.image_groups.specs.Erasing.{projected_registers, trapped_in}
 use Rattle.image_groups.specs.Groups.{Group, IsClosed, granted, is_register_granted}
-use Rattle.image_groups.specs.Reach.{reach, is_register_read}
+use Rattle.image_groups.specs.Reach.{reach}
 
 -- Where an access passes, each of its units is within the image's reach for that right.
 abbrev pub PassesWithinReach : Type 0
@@ -48,8 +48,9 @@ pub record Facts (group : Group) (site : Site) : Type 0 where
   pub same_registers : (saved : Saved) (register : ℕ)
       → is_register_granted group site (trapped_in (projected_registers group site saved)) register
       ≡ is_register_granted group site (trapped_in saved) register
-  -- what passes for an image of the group is granted to the group, unit by unit
+  -- what passes for an image of the group that is there is granted to the group, unit by unit
   pub within : (image : ℕ) (kind : Kind) (base n : ℕ) (right : Right) (trapped unit : ℕ)
+      → image < length site.images
       → group image ≡ true
       → kind ≢ kinds.Saved
       → passes (decided site image kind base n right trapped) ≡ true
@@ -57,12 +58,14 @@ pub record Facts (group : Group) (site : Site) : Type 0 where
       → granted group site kind unit ≡ true
   -- so is a saved register that it may read
   pub within_registers : (image : ℕ) (base n trapped unit : ℕ)
+      → image < length site.images
       → group image ≡ true
       → passes (decided site image kinds.Saved base n rights.Read trapped) ≡ true
       → Has (units_from base n) unit
       → is_register_granted group site trapped unit ≡ true
-  -- a write that passes for an image outside the group touches nothing that is granted to the group
+  -- a write that passes for an image outside the group that is there touches nothing that is granted to the group
   pub apart : (image : ℕ) (kind : Kind) (base n trapped unit : ℕ)
+      → image < length site.images
       → group image ≡ false
       → kind ≢ kinds.Saved
       → passes (decided site image kind base n rights.Write trapped) ≡ true
