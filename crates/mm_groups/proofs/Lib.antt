@@ -1,4 +1,3 @@
-pub mod ClosedStub
 pub mod FlagLemmas
 pub mod LoneLemmas
 pub mod WalkLemmas

@@ -1,7 +1,8 @@
 -- Groups of one image.
-use Rattle.std.proofs.Common.{◌≡◌, ℕ, zero, suc, ◌+◌, ◌<◌, ◌≤◌, Bool, true, false, List, [], ◌∷◌, ◌++◌, length, get_or, map, take, drop, replicate, Some}
+use Rattle.std.proofs.Common.{◌≡◌, ℕ, zero, suc, ◌+◌, ◌<◌, ◌≤◌, Bool, true, false, Some}
+use Rattle.std.proofs.Common.{List, [], ◌++◌, length, get_or, take, drop, replicate}
 use Rattle.std.proofs.Common.{inl, inr, refl, sym, ap, ◌∙◌, subst, arith}
-use Rattle.std.specs.Prelude.{◌↔◌, ◌==◌, ◌&&◌, ◌||◌, not, slice_get}
+use Rattle.std.specs.Prelude.{◌==◌, ◌&&◌, ◌||◌, not}
 use Rattle.std.specs.List.{list_any, range_with_len}
 use Rattle.std.proofs.Math.Bool.{or-false}
 use Rattle.std.proofs.lemmas.Bool.{cases_eq, eq-eqb, ne_eqb}
@@ -18,7 +19,7 @@ use Rattle.mm_base.specs.declared.handler.Handler.{Handler}
 use Rattle.mm_core.specs.CoreState.{Site as CoreSite}
 use Rattle.mm_groups.specs.Closed.{AreAloneClosed}
 use Rattle.mm_groups.specs.FlagsInside.{Lowered, writers_of}
-use Rattle.mm_groups.proofs.ClosedStub.{closed_exactly}
+use Rattle.image_groups.proofs.ClosedLemmas.{closed_exactly}
 use Rattle.mm_groups.proofs.FlagLemmas.{lowered_then}
 use Rattle.mm_groups.proofs.WalkLemmas.{any_same}
 use Rattle.supervisor_calls.specs.Tables.{Site}

@@ -1,5 +1,6 @@
 -- Walks over lists by their places, and over numbers, that end at the first that decides.
-use Rattle.std.proofs.Common.{◌≡◌, ℕ, zero, suc, ◌+◌, ◌-◌, ◌<◌, ◌≤◌, Bool, true, false, List, [], ◌∷◌, length, drop, Option, Some, None}
+use Rattle.std.proofs.Common.{◌≡◌, ℕ, zero, suc, ◌+◌, ◌-◌, ◌<◌, ◌≤◌, Bool, true, false}
+use Rattle.std.proofs.Common.{List, [], ◌∷◌, length, drop, Some, None}
 use Rattle.std.proofs.Common.{refl, sym, ap, ◌∙◌, arith}
 use Rattle.std.specs.Prelude.{◌&&◌, ◌||◌, slice_get}
 use Rattle.std.specs.List.{list_all, list_any, range_with_len}
@@ -20,9 +21,8 @@ module _ {A : Type 0} (test : A → Bool) where
   all_from (first ∷ items) zero item here =
       let same : first ≡ item = cc in ap (λ x. test x && list_all test items) same
   all_from (first ∷ items) (suc k) item here =
-      let next : k + 1 + 1 ≡ suc k + 1 = omega arith in
-      let inner : suc (k + 1) ≡ suc k + 1 = omega arith in
-      all_from items k item here ∙ ap (λ n. test item && list_all test (drop n (first ∷ items))) inner
+      let next : suc (k + 1) ≡ suc k + 1 = omega arith in
+      all_from items k item here ∙ ap (λ n. test item && list_all test (drop n (first ∷ items))) next
 
   pub all_end : (items : List A) (k : ℕ) → length items ≤ k → list_all test (drop k items) ≡ true
   all_end items k past = ap (list_all test) (drop_all k items past)

@@ -12,9 +12,9 @@ use mm_base::{Handler, Kind, Right};
 use mm_core::Core;
 
 /// Whether the group of the images with these numbers is closed: no GUID is shared with a handler that isn't code of the group, and nothing
-/// that an image outside may write is granted to it. It takes no memory. For n images, m ends of ranges and h handlers it costs four
-/// questions to the core for each of the n images at each of the m ends at most, and a step for each two of the h handlers, each with a
-/// pass over the numbers.
+/// that an image outside may write is granted to it. It takes no memory. The units that are looked at are two for each rule and each home
+/// range, and 13 more; finding one costs two steps a rule and one an image, and at each three accesses of each image are decided at most.
+/// Each two handlers are compared. Each of these steps goes over the numbers once.
 pub fn is_closed(core: &Core, group: &[u32]) -> bool
     requires { All (λ image. image < length core.now.site.supervised.images) group.now }
     ensures { IsTrue result ↔ IsClosedIn (group_of group.now) core.now.site }

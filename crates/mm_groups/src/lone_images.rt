@@ -11,9 +11,10 @@ use mm_base::{Handler, Kind, List, NoMemory, Right};
 use mm_core::Core;
 use std::alloc::Global;
 
-/// A flag for each image, by its number: whether the group of that image alone is closed. It takes two flags an image of memory. For n
-/// images, m ends of ranges and h handlers it decides three accesses for each of the n images at each of the m ends, and costs n steps more
-/// for each of these, and a step for each two of the h handlers, with n more where they have one GUID.
+/// A flag for each image, by its number: whether the group of that image alone is closed. It takes two flags an image of memory. The units
+/// that are looked at are two for each rule and each home range, and 13 more; finding one costs two steps a rule and one an image, and at each
+/// three accesses of each image are decided, and each two images compared. Each two handlers are compared, and for those of one GUID each
+/// image is.
 pub fn each_alone_closed(alloc: Global, core: &Core) -> Result<List<bool>, NoMemory>
     ensures { IfOk result (λ flags. AreAloneClosed core.now.site flags) }
 {
@@ -108,7 +109,7 @@ fn find_writers(core: &Core, kind: Kind, unit: u64, writers: &mut [bool])
 
 /// Lowers the flag of each image that may touch a unit which another image may write.
 fn lower_by_unit(core: &Core, kind: Kind, unit: u64, writers: &[bool], flags: &mut [bool])
-    requires value { writers.now ≡ writers_of core.now.site.supervised kind unit }
+    requires writers { writers.now ≡ writers_of core.now.site.supervised kind unit }
     requires count { length flags.old ≡ length core.now.site.supervised.images }
     ensures { Lowered (λ image. is_apart_at (alone image) core.now.site.supervised kind unit) flags.old flags.new }
 {
@@ -122,7 +123,7 @@ fn lower_by_unit(core: &Core, kind: Kind, unit: u64, writers: &[bool], flags: &m
 /// Whether no other image may write a unit, or this image may not touch it.
 fn is_apart_alone(core: &Core, image: u32, kind: Kind, unit: u64, writers: &[bool]) -> bool
     requires there { image < length core.now.site.supervised.images }
-    requires value { writers.now ≡ writers_of core.now.site.supervised kind unit }
+    requires writers { writers.now ≡ writers_of core.now.site.supervised kind unit }
     ensures { result ≡ is_apart_at (alone image) core.now.site.supervised kind unit }
 {
     if !is_written_beside(image, writers) {

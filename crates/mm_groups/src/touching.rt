@@ -9,7 +9,7 @@ use mm_core::Core;
 /// Whether an image may read, write or execute a unit, where it is known whether it may write it. It decides two accesses at most.
 pub fn is_touched(core: &Core, image: u32, kind: Kind, unit: u64, written: bool) -> bool
     requires there { image < length core.now.site.supervised.images }
-    requires value { written ≡ reach core.now.site.supervised image kind unit Write }
+    requires written { written ≡ reach core.now.site.supervised image kind unit Write }
     ensures { result ≡ is_touched core.now.site.supervised image kind unit }
 {
     written

@@ -20,11 +20,13 @@ loop-unit-preserved c =
 
 pub overflow_add-k : goal.overflow_add-k
 overflow_add-k c =
-    omega (arith, slice_get_within (ends_of c.args.kind c.args.core.now.site.supervised) c.loop-unit.k c.in-Some.unit (sym c.in-Some.ensures.value), c.in-Some.ensures.few)
+    let within = slice_get_within (ends_of c.args.kind c.args.core.now.site.supervised) c.loop-unit.k c.in-Some.unit (sym c.in-Some.ensures.value) in
+    omega (arith, within, c.in-Some.ensures.few)
 
 pub loop-unit-smaller : goal.loop-unit-smaller
 loop-unit-smaller c =
-    omega (arith, slice_get_within (ends_of c.args.kind c.args.core.now.site.supervised) c.loop-unit.k c.in-Some.unit (sym c.in-Some.ensures.value))
+    let within = slice_get_within (ends_of c.args.kind c.args.core.now.site.supervised) c.loop-unit.k c.in-Some.unit (sym c.in-Some.ensures.value) in
+    omega (arith, within)
 
 pub returns : goal.returns
 returns c =

@@ -1,6 +1,6 @@
 use Rattle.std.proofs.Common.{sym, ◌∙◌}
 use Rattle.image_groups.specs.Groups.{group_of}
-use Rattle.mm_groups.proofs.ClosedStub.{closed_exactly}
+use Rattle.image_groups.proofs.ClosedLemmas.{closed_exactly}
 use Rattle.mm_groups.proofs.closed_group.is_closed.Goals as goal
 
 pub returns : goal.returns
