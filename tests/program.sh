@@ -93,7 +93,9 @@ file='file 00000048 aaaaaaaa-0000-0000-0000-000000000001 type 0e size 00000174'
 first='start aaaaaaaa-0000-0000-0000-000000000001 round 1'
 none='policy none fuel 65536'
 nothing='locked images 0 handlers 0 protocols 0'
-booted sample.fd "$volume" "$file driver" "$none" "$first returned 0000000000000000" 'locked images 1 handlers 1 protocols 0'
+stayed='locked images 1 handlers 1 protocols 0'
+closed='image 0 aaaaaaaa-0000-0000-0000-000000000001 closed'
+booted sample.fd "$volume" "$file driver" "$none" "$first returned 0000000000000000" "$stayed" "$closed"
 
 # The second driver is denied its port, and fails: its image is gone at lock.
 "$top/tests/sample-volume.sh" two.fd two
@@ -101,8 +103,7 @@ booted two.fd 'volume 00000308 ffs2 files 2' "$file driver" \
     'file 000001c0 bbbbbbbb-0000-0000-0000-000000000002 type 0e size 00000146 driver' "$none" \
     "$first returned 0000000000000000" \
     'start bbbbbbbb-0000-0000-0000-000000000002 round 1 returned 800000000000000f' \
-    '  deny io read 0000000000000072 1 norule' \
-    'locked images 1 handlers 1 protocols 0'
+    '  deny io read 0000000000000072 1 norule' "$stayed" "$closed"
 booted empty.fd 'volume 00000048 ffs2 files 0' "$none" "$nothing"
 
 # booted_as WORDS EDIT LINE..: the sample volume with this edit is booted, its file is taken for this, and these are the last lines.
@@ -135,7 +136,7 @@ served empty.fd version.script 'volume 00000048 ffs2 files 0' "$none" "$nothing"
     "  request 0000000000000020 $message" '  nohandler 4d4d5631-0001-4000-8000-000000000001' '  reply -' \
     "lane 0 length 0000000000000020 status 800000000000000e data $message"
 printf '%s\n' 'lanes 1 3' 'cell io 70 5a' > quiet.script
-served sample.fd quiet.script "$volume" "$file driver" "$none" "$first returned 0000000000000000" 'locked images 1 handlers 1 protocols 0' \
+served sample.fd quiet.script "$volume" "$file driver" "$none" "$first returned 0000000000000000" "$stayed" "$closed" \
     'lane 0 length 0000000000000000 status 0000000000000000 data 000000000000000000000000000000000000000000000000'
 
 usage='mm_main: usage: mm_main script FILE, mm_main check FILE, mm_main boot FILE, or mm_main serve FILE SCRIPT'
@@ -268,7 +269,7 @@ head -c 16777216 /dev/zero > zeros.fd
 ends 2 - "mm_main: \"zeros.fd\", byte 0x28: a volume has its signature here, _FVH, and this isn't it" "$program" check zeros.fd
 head -c $((16777216 - 448)) /dev/zero | cat sample.fd - > whole.fd
 ends 0 sample.report '' "$program" check whole.fd
-booted whole.fd "$volume" "$file driver" "$none" "$first returned 0000000000000000" 'locked images 1 handlers 1 protocols 0'
+booted whole.fd "$volume" "$file driver" "$none" "$first returned 0000000000000000" "$stayed" "$closed"
 
 echo "program.sh: $passed passed, $failed failed"
 [ "$failed" = 0 ]

@@ -63,20 +63,40 @@ fn put_line(
     text.extend(back)
 }
 
-/// The lines from the policy's on: 32 drivers stay, and the last one finds no place.
-fn report_of_all(alloc: Global) -> Result<Bytes, NoMemory> {
-    let mut text = List::from_slice(alloc, b"policy none fuel 65536\n")?;
+/// Puts the lines of the starts at a text's end: 32 drivers stay, and the last one finds no place.
+fn put_starts(text: &mut Bytes, alloc: Global) -> Result<(), NoMemory> {
     for number in 1..33u8 {
         put_line(
-            &mut text,
+            text,
             alloc,
             number,
             b"start ",
             b" round 1 returned 0000000000000000\n",
         )?;
     }
-    put_line(&mut text, alloc, 33, b"start ", b" round 1 toomany\n")?;
+    put_line(text, alloc, 33, b"start ", b" round 1 toomany\n")
+}
+
+/// Puts the line of an image at a text's end: image 0 is that of driver 1, and so on. None has a handler, and there are no rules.
+fn put_image(text: &mut Bytes, alloc: Global, image: u8) -> Result<(), NoMemory> {
+    let front = format!(in alloc; "image {image} ")?;
+    put_line(
+        text,
+        alloc,
+        image.wrapping_add(1),
+        front.as_bytes(),
+        b" closed\n",
+    )
+}
+
+/// The lines from the policy's on.
+fn report_of_all(alloc: Global) -> Result<Bytes, NoMemory> {
+    let mut text = List::from_slice(alloc, b"policy none fuel 65536\n")?;
+    put_starts(&mut text, alloc)?;
     text.extend(b"locked images 32 handlers 0 protocols 0\n")?;
+    for image in 0..32u8 {
+        put_image(&mut text, alloc, image)?;
+    }
     Ok(text)
 }
 
@@ -122,6 +142,8 @@ start 76697264-7265-6e20-756d-626572203033 round 1 fault break at 00000000810261
 start 76697264-7265-6e20-756d-626572203034 round 1 returned 0000000000000000
 start 76697264-7265-6e20-756d-626572203035 round 1 nopages
 locked images 2 handlers 0 protocols 0
+image 0 76697264-7265-6e20-756d-626572203031 closed
+image 1 76697264-7265-6e20-756d-626572203034 closed
 ",
 };
 

@@ -24,6 +24,7 @@ file 00000048 aaaaaaaa-0000-0000-0000-000000000001 type 0e size 00000174 driver
 policy none fuel 65536
 start aaaaaaaa-0000-0000-0000-000000000001 round 1 returned 0000000000000000
 locked images 1 handlers 1 protocols 0
+image 0 aaaaaaaa-0000-0000-0000-000000000001 closed
 ",
 ];
 
