@@ -1,6 +1,10 @@
 pub mod ChainLemmas
+pub mod ClosedStub
 pub mod CoreLemmas
 pub mod EntryLemmas
+pub mod FlagLemmas
 pub mod HandlerRunLemmas
+pub mod LoneLemmas
 pub mod MessageLemmas
 pub mod ReplayLemmas
+pub mod WalkLemmas

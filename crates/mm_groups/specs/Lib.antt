@@ -1,3 +1,4 @@
 pub mod Closed
 pub mod EntryLaws
+pub mod FlagsInside
 pub mod Share
