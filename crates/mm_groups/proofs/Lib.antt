@@ -1,4 +1,5 @@
 pub mod ChainLemmas
+pub mod ClosedStub
 pub mod CoreLemmas
 pub mod EntryLemmas
 pub mod FlagLemmas
