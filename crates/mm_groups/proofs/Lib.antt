@@ -1,3 +1,4 @@
+pub mod ChainLawLemmas
 pub mod ChainLemmas
 pub mod ClosedStub
 pub mod CoreLemmas

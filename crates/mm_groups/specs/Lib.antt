@@ -1,3 +1,4 @@
+pub mod ChainLaws
 pub mod Closed
 pub mod EntryLaws
 pub mod FlagsInside
