@@ -47,8 +47,8 @@ passes_here group site live other saved asked sound whole closed same registers 
     let facts = closed_groups_have_facts group site.supervised site.handlers sound.placed closed in
     let founds = found site.handlers sound.numbered.rising in
     let alike =
-        roots_alike group site sound.placed facts saved asked registers (chain_of None site.handlers) no_message no_message live other
-        sound.whole whole.whole same (chain_founds group site sound.placed facts closed.alike founds None) in
+    roots_alike group site sound.placed facts saved asked registers (chain_of None site.handlers) no_message no_message live other
+    sound.whole whole.whole same (chain_founds group site sound.placed facts closed.alike founds None) in
     record { own = alike.own; states = alike.states }
 
 passes_there : (group : Group) (site place : Site) → site ≡ place → (live other : Live) (saved asked : Saved)

@@ -1,6 +1,5 @@
 pub mod ChainLawLemmas
 pub mod ChainLemmas
-pub mod ClosedStub
 pub mod CoreLemmas
 pub mod EntryLemmas
 pub mod FlagLemmas
