@@ -1,5 +1,5 @@
 -- An invocation of an image of a closed group is the same on what is left after erasing; one of an image outside changes nothing of that.
-use Rattle.std.proofs.Common.{◌≡◌, ◌≢◌, ◌⊎◌, ℕ, ◌≤◌, ◌<◌, Bool, true, false, List, [], length, set, replicate, refl, sym, ap, ◌∙◌, subst, arith}
+use Rattle.std.proofs.Common.{◌≡◌, ◌≢◌, ℕ, ◌≤◌, ◌<◌, Bool, true, false, List, [], length, replicate, refl, sym, ap, ◌∙◌, subst, arith}
 use Rattle.ebc_machine.specs.Invocation.{entered}
 use Rattle.ebc_machine.specs.Laws.{Keeps, mapped}
 use Rattle.mm_base.specs.Frames.{zeros}
@@ -7,7 +7,6 @@ use Rattle.mm_base.specs.Numbers.{low_bytes}
 use Rattle.mm_base.specs.declared.access.Kind.{Kind}
 use Rattle.mm_base.specs.declared.access.Kind.TheVariants as kinds
 use Rattle.mm_base.specs.declared.access.Right.TheVariants as rights
-use Rattle.mm_base.specs.declared.invocation.Ended.{Ended}
 use Rattle.mm_memory.proofs.PageLemmas.{length-zeros}
 use Rattle.mmi_registry.specs.Registry.{RegistryState}
 use Rattle.pool_tree.specs.Pool.{Block}
