@@ -1,8 +1,8 @@
 -- A domain of an image of a closed group goes along with erasing: each of its calls is answered the same, and leaves what it leaves, erased.
-use Rattle.std.proofs.Common.{◌≡◌, ◌≢◌, ◌⊎◌, inl, inr, ℕ, zero, suc, ◌+◌, ◌-◌, ◌*◌, ◌%◌, ◌^◌, ◌≤◌, ◌<◌, Bool, true, false, ◌&&◌, ◌||◌, if◌then◌else◌, nat_lt, ◌==◌, List, [], ◌∷◌, ◌++◌, length, get_or, set, replicate, Option, Some, None, Result, Ok, Err, refl, sym, ap, ◌∙◌, subst, arith}
-use Rattle.std.specs.List.{slice_get, slice_index}
+use Rattle.std.proofs.Common.{◌≡◌, ◌≢◌, ◌⊎◌, inl, inr, ℕ, ◌+◌, ◌-◌, ◌*◌, ◌%◌, ◌^◌, ◌≤◌, ◌<◌, Bool, true, false, ◌&&◌, if◌then◌else◌, nat_lt, ◌==◌, List, [], ◌∷◌, ◌++◌, length, get_or, set, replicate, Option, Some, None, Result, Ok, Err, refl, sym, ap, ◌∙◌, subst, arith}
+use Rattle.std.specs.List.{slice_get}
 use Rattle.std.specs.Option.{option_map_or}
-use Rattle.mm_base.specs.Numbers.{bytes_of_word, low_bytes, number_in, number_of}
+use Rattle.mm_base.specs.Numbers.{low_bytes, number_of}
 use Rattle.mm_base.specs.Frames.{zeros}
 use Rattle.mm_base.specs.Records.{RecordsState}
 use Rattle.mm_base.specs.Statuses.{access_denied, unsupported}
@@ -24,22 +24,21 @@ use Rattle.mm_memory.proofs.PageLemmas.{length-zeros}
 use Rattle.pool_tree.specs.Pool.{Block}
 use Rattle.protocol_db.specs.ProtocolDb.{DbState}
 use Rattle.secure_policy.specs.Laws.{passes}
-use Rattle.secure_policy.specs.Verdicts.{units_from}
-use Rattle.supervisor_calls.specs.Accesses.{answered, target_by, service_of, bytes_at, changed, decided, denial_of, held_after, number_at, with_bytes, with_cell_write, with_denial, with_number, with_quota}
+use Rattle.supervisor_calls.specs.Accesses.{answered, target_by, service_of, bytes_at, changed, denial_of, number_at, with_bytes, with_cell_write, with_number, with_quota}
 use Rattle.supervisor_calls.specs.Deeds.{Deed, Returns, Reads, Names, Asks, Writes, Clears, SeesPool, SetsPool, SeesReserve, SetsReserve}
 use Rattle.supervisor_calls.specs.Deeds.{SeesHandlers, SetsHandlers, SeesInterfaces, SetsInterfaces, going_on, let_through, done}
-use Rattle.supervisor_calls.specs.Deeds.{after_clearing, after_write, bytes_cleared, guid_seen, number_seen, number_written, out_asked, pool_in, refusal, reserve_in, with_denied}
-use Rattle.supervisor_calls.specs.Domains.{DomainState, acted, acting_of, fetched, read_at, seen_registers, target_at, trapped_of, verdict_in, with_acting, write_verdict, written_at}
+use Rattle.supervisor_calls.specs.Deeds.{after_clearing, after_write, refusal, with_denied}
+use Rattle.supervisor_calls.specs.Domains.{DomainState, acted, acting_of, fetched, read_at, target_at, trapped_of, verdict_in, with_acting, write_verdict, written_at}
 use Rattle.supervisor_calls.specs.Laws.{IsSite, along}
 use Rattle.supervisor_calls.specs.Services.{all_services, and_then, argument, argument_count, arguments_at, deed_of, ends_at_lock, region_in, served, served_by_number, stopping}
 use Rattle.supervisor_calls.specs.Tables.{Live, Site}
 use Rattle.supervisor_calls.proofs.CellLemmas.{passes_without_quota}
-use Rattle.image_groups.specs.Erasing.{erase, projected_registers, trapped_in}
-use Rattle.image_groups.specs.Groups.{Group, granted}
+use Rattle.image_groups.specs.Erasing.{erase, erased_domain, projected_registers, trapped_in}
+use Rattle.image_groups.specs.Groups.{Group}
 use Rattle.image_groups.specs.Laws.{Facts}
 use Rattle.image_groups.specs.RunLaws.{IsWhole}
-use Rattle.image_groups.proofs.LiveLemmas.{AreGranted, AreSpared, bytes_same, erased-ports, erased-register, erased-with_bytes, few_low, ports-erased, ports-whole, ports_same, register-erased, register-whole, register_same, with_bytes-erased, with_bytes-whole}
-use Rattle.image_groups.proofs.MaskLemmas.{get_or-masked, masked-set_other, set-masked}
+use Rattle.image_groups.proofs.LiveLemmas.{AreGranted, bytes_same, few_low, ports-erased, ports-whole, ports_same, register-erased, register-whole, register_same, with_bytes-erased, with_bytes-whole}
+use Rattle.image_groups.proofs.MaskLemmas.{get_or-masked, set-masked}
 use Rattle.image_groups.proofs.PlaceLemmas.{bytes_where, cells_there, ports_within, register_there, some_unit}
 
 -- What changes while an image is at work.
@@ -57,13 +56,6 @@ module _ (site : Site) (registry : RegistryState) (protocols : DbState) (pages :
     saved = work.saved;
     records = work.records;
   }
-
--- a domain with what isn't granted to a group erased, by a site
-abbrev pub erased_in : Group → Site → DomainState → DomainState
-erased_in group site domain = record domain {
-  tables = record domain.tables { live = erase group site domain.tables.live };
-  saved = projected_registers group site domain.saved;
-}
 
 module _ (group : Group) (site : Site) where
   abbrev pub erased_work : Work → Work
@@ -112,7 +104,7 @@ module _ (group : Group) (site : Site) (placed : IsSite site) (facts : Facts gro
   erased = erased_work group site
 
   abbrev change : DomainState → DomainState
-  change = erased_in group site
+  change = erased_domain group
 
   -- ---- verdicts
 

@@ -1,5 +1,5 @@
 -- What is granted to a group is the same after erasing, and what isn't granted may change without a trace.
-use Rattle.std.proofs.Common.{◌≡◌, ◌≢◌, ◌⊎◌, inl, inr, ℕ, zero, suc, ◌+◌, ◌-◌, ◌≤◌, ◌<◌, Bool, true, false, ◌&&◌, ◌||◌, if◌then◌else◌, nat_lt, nat_le, List, [], ◌∷◌, length, take, drop, get_or, set, replicate, refl, sym, ap, ◌∙◌, subst, arith}
+use Rattle.std.proofs.Common.{◌≡◌, ◌⊎◌, inl, inr, ℕ, ◌+◌, ◌-◌, ◌≤◌, ◌<◌, Bool, true, false, if◌then◌else◌, nat_lt, List, [], length, take, drop, get_or, set, replicate, refl, sym, ap, ◌∙◌, subst, arith}
 use Rattle.std.proofs.lemmas.Bool.Decides.{nat_tests}
 use Rattle.std.proofs.lemmas.List.{length-set, length-take}
 use Rattle.mm_base.specs.Cells.{is_device_byte, is_msr}
@@ -7,19 +7,17 @@ use Rattle.mm_base.specs.Numbers.{bytes_of_word, low_bytes, number_in, number_of
 use Rattle.mm_base.specs.Range.{Has}
 use Rattle.mm_base.specs.declared.access.Kind.{Kind}
 use Rattle.mm_base.specs.declared.access.Kind.TheVariants as kinds
-use Rattle.mm_base.specs.declared.cells.Saved.{Saved}
 use Rattle.mm_memory.proofs.PageLemmas.{length-overwritten}
-use Rattle.platform_model.specs.Cells.{IsPlatform, PlatformState, register_in, with_register}
-use Rattle.secure_policy.specs.Places.{have_cells}
+use Rattle.platform_model.specs.Cells.{register_in, with_register}
 use Rattle.secure_policy.specs.Verdicts.{units_from}
-use Rattle.supervisor_calls.specs.Accesses.{bytes_at, number_at, with_bytes, with_number}
+use Rattle.supervisor_calls.specs.Accesses.{bytes_at, with_bytes}
 use Rattle.supervisor_calls.specs.Tables.{Live, Site}
 use Rattle.supervisor_calls.proofs.WhereLemmas.{InDevice, device_told}
-use Rattle.image_groups.specs.Erasing.{erase, erased_cells, masked}
+use Rattle.image_groups.specs.Erasing.{erase}
 use Rattle.image_groups.specs.Groups.{Group, granted}
 use Rattle.image_groups.specs.RunLaws.{IsWhole}
 use Rattle.image_groups.proofs.MaskLemmas.{get_or-masked, masked-overwritten_other, masked-set_other, masked_twice, overwritten-masked, piece_at_same, set-masked}
-use Rattle.image_groups.proofs.PlaceLemmas.{InMmram, ports_within, register_there}
+use Rattle.image_groups.proofs.PlaceLemmas.{InMmram}
 
 -- memory isn't the device window
 memory_told : (at n : ℕ) → InMmram at n → 1 ≤ n → is_device_byte at ≡ false

@@ -1,26 +1,24 @@
 -- Where an access lies that passes: of each kind in its cells, of bytes in memory or in the device window. It has some unit.
-use Rattle.std.proofs.Common.{◌≡◌, ◌≢◌, ◌⊎◌, inl, inr, ℕ, zero, suc, ◌+◌, ◌-◌, ◌≤◌, ◌<◌, ◌^◌, Bool, true, false, ◌&&◌, if◌then◌else◌, nat_lt, List, [], ◌∷◌, refl, sym, ap, ◌∙◌, arith}
+use Rattle.std.proofs.Common.{◌≡◌, ◌≢◌, ◌⊎◌, inl, inr, ℕ, zero, suc, ◌+◌, ◌≤◌, ◌^◌, Bool, true, false, ◌&&◌, if◌then◌else◌, nat_lt, List, [], ◌∷◌, refl, sym, ap, ◌∙◌, arith}
 use Rattle.std.proofs.lemmas.Bool.Decides.{nat_tests}
 use Rattle.image_table.specs.ImageTable.{name_at}
-use Rattle.mm_base.specs.Cells.{is_device_byte, is_msr}
+use Rattle.mm_base.specs.Cells.{is_msr}
 use Rattle.mm_base.specs.Platform.{mmram, lane_window, device_window}
-use Rattle.mm_base.specs.Range.{Has, encloses, share_a_unit}
+use Rattle.mm_base.specs.Range.{encloses, share_a_unit}
 use Rattle.mm_base.specs.declared.access.Kind.{Kind}
 use Rattle.mm_base.specs.declared.access.Kind.TheVariants.{Memory, Io, Msr, Saved}
 use Rattle.mm_base.specs.declared.access.Right.{Right}
 use Rattle.mm_base.specs.declared.access.Verdict.{Verdict}
 use Rattle.mm_base.specs.declared.access.Verdict.TheVariants.{Pass, Deny}
 use Rattle.mm_base.specs.declared.access.Why.TheVariants as whys
-use Rattle.mm_base.specs.declared.guid.Guid.{Guid}
 use Rattle.mm_base.specs.declared.policy.Rule.{Rule}
 use Rattle.mm_base.specs.declared.range.Range.{Range}
 use Rattle.secure_policy.specs.Laws.{passes}
 use Rattle.secure_policy.specs.Places.{have_cells, place_of, place_of_bytes, place_of_cells}
-use Rattle.secure_policy.specs.Verdicts.{verdict_on, verdict_at, verdict_by_rules, is_about, is_allowed_by, is_for, units_from}
-use Rattle.secure_policy.specs.declared.place.Place.{Place}
+use Rattle.secure_policy.specs.Verdicts.{verdict_on, verdict_at, verdict_by_rules, is_about, is_allowed_by, units_from}
 use Rattle.secure_policy.specs.declared.place.Place.TheVariants.{Nowhere, Mmram, LaneWindow, Cells}
 use Rattle.supervisor_calls.specs.Accesses.{decided}
-use Rattle.supervisor_calls.specs.Domains.{DomainState, verdict_in}
+use Rattle.supervisor_calls.specs.Domains.{DomainState}
 use Rattle.supervisor_calls.specs.Laws.{IsSite}
 use Rattle.supervisor_calls.specs.Tables.{Site}
 use Rattle.supervisor_calls.proofs.OutsideLemmas.{LiesIn, passed_lies}

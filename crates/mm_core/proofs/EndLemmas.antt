@@ -1,6 +1,6 @@
 -- The ends of ranges by their places, and how many there are.
-use Rattle.std.proofs.Common.{◌≡◌, ℕ, zero, suc, ◌+◌, ◌-◌, ◌*◌, ◌^◌, ◌<◌, ◌≤◌, true, false, List, [], ◌∷◌, ◌++◌, length, drop, Option, Some, None}
-use Rattle.std.proofs.Common.{◌⊎◌, inl, inr, refl, sym, ap, ◌∙◌, arith, length-append}
+use Rattle.std.proofs.Common.{◌≡◌, ◌⊎◌, ℕ, zero, suc, ◌+◌, ◌-◌, ◌*◌, ◌^◌, ◌<◌, ◌≤◌, true, false, inl, inr, Option, Some, None}
+use Rattle.std.proofs.Common.{List, [], ◌∷◌, ◌++◌, length, drop, length-append, refl, sym, ap, ◌∙◌, arith}
 use Rattle.std.specs.Prelude.{Bool, All, filter, slice_get, if◌then◌else◌}
 use Rattle.std.specs.List.{flat_map}
 use Rattle.std.proofs.lemmas.List.Elements.{All-head, All-tail}
@@ -107,7 +107,8 @@ home_later images image left ends within is past =
 -- the ends of windows, rules and home ranges, one after another
 
 module _ (site : Site) where
-  pub rule_count : (kind : Kind) → length (rule_ends kind site.policy.rules) ≡ 2 * length (filter (λ rule. same_kind rule.kind kind) site.policy.rules)
+  pub rule_count : (kind : Kind)
+      → length (rule_ends kind site.policy.rules) ≡ 2 * length (filter (λ rule. same_kind rule.kind kind) site.policy.rules)
   rule_count kind = pair_count (λ (rule : Rule). rule.range) (filter (λ rule. same_kind rule.kind kind) site.policy.rules)
 
   pub in_windows : (kind : Kind) (k : ℕ)
@@ -225,16 +226,23 @@ module _ (site : Site) where
       let here : length (home_ranges image) ≤ 33398790 =
       omega (arith, count_of_homes image, few_sections image (All-head IsPlaced image images placed)) in
       let rest = few_homes images (All-tail IsPlaced image images placed) in
-      omega (arith, length-append (ends_of_homes (home_ranges image)) (home_ends images), pair_count (λ (home : Home). home.0) (home_ranges image))
+      let two = pair_count (λ (home : Home). home.0) (home_ranges image) in
+      omega (arith, length-append (ends_of_homes (home_ranges image)) (home_ends images), two)
 
-  pub few_ends : (kind : Kind) (rules : List Rule) → rules ≡ site.policy.rules → length rules ≤ 1024 → All IsPlaced site.images → length site.images ≤ 32
+  pub few_ends : (kind : Kind) (rules : List Rule)
+      → rules ≡ site.policy.rules
+      → length rules ≤ 1024
+      → All IsPlaced site.images
+      → length site.images ≤ 32
       → length (ends_of kind site) < 2 ^ 32
   few_ends kind rules same few placed images =
       let some_rules : List ℕ = rule_ends kind site.policy.rules in
       let homes : List ℕ = if same_kind kind Memory then home_ends site.images else [] in
       let some_homes : length homes ≤ 66797580 * length site.images =
       at_most (same_kind kind Memory) (home_ends site.images) (66797580 * length site.images) (few_homes site.images placed) in
-      omega (arith, ap length same, few_windows kind, rule_count kind, few_passing kind site.policy.rules, length-append (window_ends kind) some_rules, length-append (window_ends kind ++ some_rules) homes)
+      let front = length-append (window_ends kind) some_rules in
+      let whole = length-append (window_ends kind ++ some_rules) homes in
+      omega (arith, ap length same, few_windows kind, rule_count kind, few_passing kind site.policy.rules, front, whole)
     where
       at_most : (b : Bool) (homes : List ℕ) (most : ℕ) → length homes ≤ most → length (if b then homes else []) ≤ most
       at_most true homes most few = few

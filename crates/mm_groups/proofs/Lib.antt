@@ -1,6 +1,10 @@
+pub mod ChainLawLemmas
 pub mod ChainLemmas
 pub mod CoreLemmas
 pub mod EntryLemmas
+pub mod FlagLemmas
 pub mod HandlerRunLemmas
+pub mod LoneLemmas
 pub mod MessageLemmas
 pub mod ReplayLemmas
+pub mod WalkLemmas

@@ -1,3 +1,5 @@
+pub mod ChainLaws
 pub mod Closed
 pub mod EntryLaws
+pub mod FlagsInside
 pub mod Share

@@ -15,8 +15,8 @@ use crate::script_run::world_from;
 use crate::status::Status;
 use comm_core::Script;
 use mm_base::{Bytes, Entries, Guid, List, NoMemory, Policy, Volume};
-use mm_groups::each_alone_closed;
 use mm_core::{Boot, Core, FileWord, StartRecord, boot, catalog};
+use mm_groups::each_alone_closed;
 use mm_text::{Locked, Parts, report};
 use std::alloc::Global;
 

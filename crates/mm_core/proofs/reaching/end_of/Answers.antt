@@ -10,7 +10,8 @@ returns-then-k-windows-clause-few c =
 
 pub overflow_mul-ends : goal.overflow_mul-ends
 overflow_mul-ends c =
-    omega (arith, few_passing c.args.tables.now.site c.args.kind c.as_slice-rules.result.now, ap length c.as_slice-rules.ensures, c.policy.ensures.lawful.few)
+    let few = few_passing c.args.tables.now.site c.args.kind c.as_slice-rules.result.now in
+    omega (arith, few, ap length c.as_slice-rules.ensures, c.policy.ensures.lawful.few)
 
 pub returns-then-past_windows-ends-clause-value : goal.returns-then-past_windows-ends-clause-value
 returns-then-past_windows-ends-clause-value c =

@@ -1,0 +1,10 @@
+use Rattle.std.proofs.Common.{sym}
+use Rattle.image_groups.specs.ClosedInside.{is_alike_with}
+use Rattle.image_groups.specs.Groups.{alone}
+use Rattle.mm_groups.proofs.FlagLemmas.{over_on}
+use Rattle.mm_groups.proofs.lone_images.lower_by_handler.Goals as goal
+
+pub loop-k-preserved : goal.loop-k-preserved
+loop-k-preserved c =
+    over_on (λ image other. is_alike_with (alone image) c.args.handler.now other) c.args.core.now.site.handlers c.loop-k.k c.in-Some.other
+    c.args.flags.now c.loop-k.flags c.lower_by_pair.new.flags c.loop-k.invariant (sym c.in-Some.ensures) c.lower_by_pair.ensures
