@@ -34,7 +34,7 @@ use Rattle.supervisor_calls.specs.Laws.{IsSite, along}
 use Rattle.supervisor_calls.specs.Services.{all_services, and_then, argument, argument_count, arguments_at, deed_of, ends_at_lock, region_in, served, served_by_number, stopping}
 use Rattle.supervisor_calls.specs.Tables.{Live, Site}
 use Rattle.supervisor_calls.proofs.CellLemmas.{passes_without_quota}
-use Rattle.image_groups.specs.Erasing.{erase, projected_registers, trapped_in}
+use Rattle.image_groups.specs.Erasing.{erase, erased_domain, projected_registers, trapped_in}
 use Rattle.image_groups.specs.Groups.{Group, granted}
 use Rattle.image_groups.specs.Laws.{Facts}
 use Rattle.image_groups.specs.RunLaws.{IsWhole}
@@ -57,13 +57,6 @@ module _ (site : Site) (registry : RegistryState) (protocols : DbState) (pages :
     saved = work.saved;
     records = work.records;
   }
-
--- a domain with what isn't granted to a group erased, by a site
-abbrev pub erased_in : Group → Site → DomainState → DomainState
-erased_in group site domain = record domain {
-  tables = record domain.tables { live = erase group site domain.tables.live };
-  saved = projected_registers group site domain.saved;
-}
 
 module _ (group : Group) (site : Site) where
   abbrev pub erased_work : Work → Work
@@ -112,7 +105,7 @@ module _ (group : Group) (site : Site) (placed : IsSite site) (facts : Facts gro
   erased = erased_work group site
 
   abbrev change : DomainState → DomainState
-  change = erased_in group site
+  change = erased_domain group
 
   -- ---- verdicts
 

@@ -19,11 +19,11 @@ use Rattle.supervisor_calls.specs.Laws.{IsSite, along}
 use Rattle.supervisor_calls.specs.Services.{domain_meaning, served_by_number}
 use Rattle.supervisor_calls.specs.Tables.{Live, Site}
 use Rattle.domain_runs.specs.Runs.{ending}
-use Rattle.image_groups.specs.Erasing.{erase}
+use Rattle.image_groups.specs.Erasing.{erase, erased_domain}
 use Rattle.image_groups.specs.Groups.{Group}
 use Rattle.image_groups.specs.Laws.{Facts}
 use Rattle.image_groups.specs.RunLaws.{IsWhole}
-use Rattle.image_groups.proofs.DomainLemmas.{Work, by_number_along, cleared-whole, erased_in, erased_work, fetched_along, packed, read_along, target_along, with_number-whole, written_along}
+use Rattle.image_groups.proofs.DomainLemmas.{Work, by_number_along, cleared-whole, erased_work, fetched_along, packed, read_along, target_along, with_number-whole, written_along}
 use Rattle.image_groups.proofs.InvocationLemmas.{CarriesWhere, run_along_where}
 use Rattle.image_groups.proofs.LiveLemmas.{AreSpared, erased-ports, erased-register, erased-with_bytes, few_low}
 use Rattle.image_groups.proofs.MaskLemmas.{masked-set_other}
@@ -52,35 +52,35 @@ module _ (group : Group) (site : Site) (placed : IsSite site) (facts : Facts gro
   -- ---- inside the group
 
   module _ (mine : group image ≡ true) where
-    abbrev AtWork : DomainState → Type 0
+    abbrev pub AtWork : DomainState → Type 0
     AtWork = IsAtWork site registry protocols pages image IsWhole
 
-    carries : CarriesWhere AtWork (erased_in group site) domain_meaning domain_meaning
+    pub carries : CarriesWhere AtWork (erased_domain group) domain_meaning domain_meaning
     carries = record {
-      fetches = λ d at n p. subst (λ x. fetched (erased_in group site x) at n ≡ along (erased_in group site) (fetched x at n)) (sym p.1.0)
+      fetches = λ d at n p. subst (λ x. fetched (erased_domain group x) at n ≡ along (erased_domain group) (fetched x at n)) (sym p.1.0)
           (fetched_along group site placed facts registry protocols pages image there mine p.0 at n);
-      reads = λ d at n p. subst (λ x. read_at (erased_in group site x) at n ≡ along (erased_in group site) (read_at x at n)) (sym p.1.0)
+      reads = λ d at n p. subst (λ x. read_at (erased_domain group x) at n ≡ along (erased_domain group) (read_at x at n)) (sym p.1.0)
           (read_along group site placed facts registry protocols pages image there mine p.0 at n);
       writes = λ d at n value p. by_width d at n value p;
-      targets = λ d at p. subst (λ x. target_at (erased_in group site x) at ≡ target_at x at) (sym p.1.0)
+      targets = λ d at p. subst (λ x. target_at (erased_domain group x) at ≡ target_at x at) (sym p.1.0)
           (target_along group site placed facts registry protocols pages image there mine p.0 at);
       serves = λ d number stack p.
-          subst (λ x. served_by_number number stack (erased_in group site x) ≡ along (erased_in group site) (served_by_number number stack x)) (sym p.1.0)
+          subst (λ x. served_by_number number stack (erased_domain group x) ≡ along (erased_domain group) (served_by_number number stack x)) (sym p.1.0)
           (by_number_along group site placed facts registry protocols pages image there mine number stack p.0 p.1.1);
     }
       where
         by_width : (d : DomainState) (at n value : ℕ) → AtWork d
-            → written_at (erased_in group site d) at n value ≡ along (erased_in group site) (written_at d at n value)
+            → written_at (erased_domain group d) at n value ≡ along (erased_domain group) (written_at d at n value)
         by_width d at n value p =
-            subst (λ x. written_at (erased_in group site x) at n value ≡ along (erased_in group site) (written_at x at n value)) (sym p.1.0)
+            subst (λ x. written_at (erased_domain group x) at n value ≡ along (erased_domain group) (written_at x at n value)) (sym p.1.0)
             (written_along group site placed facts registry protocols pages image there mine p.0 p.1.1 at n value)
 
     -- an invocation, its frame included, from what is left after erasing
     pub run_inside : (fuel stack address : ℕ) (arguments : List ℕ) (work : Work) → IsWhole work.live
         → ending domain_meaning fuel (entered domain_meaning stack address arguments (domain (erased_work group site work)))
-        ≡ mapped (erased_in group site) (ending domain_meaning fuel (entered domain_meaning stack address arguments (domain work)))
+        ≡ mapped (erased_domain group) (ending domain_meaning fuel (entered domain_meaning stack address arguments (domain work)))
     run_inside fuel stack address arguments work whole =
-        run_along_where AtWork (erased_in group site) domain_meaning domain_meaning (stays_whole site placed registry protocols pages image) carries
+        run_along_where AtWork (erased_domain group) domain_meaning domain_meaning (stays_whole site placed registry protocols pages image) carries
         fuel stack address arguments (domain work) (work, (refl, whole))
 
   -- ---- outside
@@ -121,7 +121,7 @@ module _ (group : Group) (site : Site) (placed : IsSite site) (facts : Facts gro
     abbrev pub Leaves : Live → Live → Type 0
     Leaves left live = IsWhole live × (erase group site live ≡ left)
 
-    left_kept : (left : Live) → KeepsEffects site registry protocols pages image (Leaves left)
+    pub left_kept : (left : Live) → KeepsEffects site registry protocols pages image (Leaves left)
     left_kept left = record {
       write = λ work kind at n value pass has. (
         with_number-whole site placed registry protocols pages image work has.0 kind at n value pass,

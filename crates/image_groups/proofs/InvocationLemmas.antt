@@ -2,8 +2,9 @@
 use Rattle.std.proofs.Common.{◌≡◌, ℕ, ◌+◌, ◌-◌, List, [], ◌∷◌, Result, Ok, Err, refl, sym, ap, ◌∙◌}
 use Rattle.ebc_machine.specs.Invocation.{Final, entered, frame, invoked, opened, opening, written, written_on}
 use Rattle.ebc_machine.specs.Laws.{Carries, Keeps, mapped}
+use Rattle.ebc_machine.specs.Stepping.{stepped}
 use Rattle.ebc_machine.specs.declared.regs.Regs.{Regs}
-use Rattle.ebc_machine.proofs.CarryLemmas.{invoked_along}
+use Rattle.ebc_machine.proofs.CarryLemmas.{invoked_along, stepped_along}
 use Rattle.mm_base.specs.Bus.{Meaning}
 use Rattle.mm_base.specs.declared.access.Denial.{Denial}
 use Rattle.mm_base.specs.declared.invocation.Ended.{Ended}
@@ -60,6 +61,12 @@ module _ {A B : Type 0} (P : A → Type 0) (h : A → B) (m : Meaning A) (n : Me
       let k : Kept P = record { bus = a; has = has } in
       invoked_along (λ (k : Kept P). h k.bus) kept_meaning n second_along fuel regs k
       ∙ ap (mapped h) (sym (invoked_along (λ (k : Kept P). k.bus) kept_meaning m first_along fuel regs k))
+
+  pub stepped_along_where : (regs : Regs) (a : A) → P a → stepped n regs (h a) ≡ mapped h (stepped m regs a)
+  stepped_along_where regs a has =
+      let k : Kept P = record { bus = a; has = has } in
+      stepped_along (λ (k : Kept P). h k.bus) kept_meaning n second_along regs k
+      ∙ ap (mapped h) (sym (stepped_along (λ (k : Kept P). k.bus) kept_meaning m first_along regs k))
 
   on_along : (x : Result (Unit {0}) Denial × A) (more : A → Result (Unit {0}) Denial × A) (other : B → Result (Unit {0}) Denial × B)
       → P x.1 → ((a : A) → P a → other (h a) ≡ mapped h (more a)) → written_on other (mapped h x) ≡ mapped h (written_on more x)

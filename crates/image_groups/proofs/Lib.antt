@@ -12,3 +12,4 @@ pub mod PackedLemmas
 pub mod PlaceLemmas
 pub mod ReachLemmas
 pub mod SameLemmas
+pub mod WorkLemmas

@@ -3,6 +3,7 @@ use Rattle.std.specs.Prelude.{ℕ, suc, ◌+◌, Bool, false, List, [], ◌∷�
 use Rattle.mm_base.specs.declared.access.Kind.TheVariants.{Memory, Io, Msr}
 use Rattle.mm_base.specs.declared.cells.Saved.{Saved}
 use Rattle.platform_model.specs.Cells.{PlatformState}
+use Rattle.supervisor_calls.specs.Domains.{DomainState}
 use Rattle.supervisor_calls.specs.Tables.{Site, Live}
 use Rattle.image_groups.specs.Groups.{Group, granted, is_register_granted}
 
@@ -38,3 +39,10 @@ trapped_in saved = get_or saved.0 18 0
 abbrev pub projected_registers : Group → Site → Saved → Saved
 projected_registers group site saved =
     record { 0 = masked 0 (is_register_granted group site (trapped_in saved)) saved.0 }
+
+-- A domain with all erased that isn't granted to the group: what a step may change, and the saved registers.
+abbrev pub erased_domain : Group → DomainState → DomainState
+erased_domain group domain = record domain {
+  tables = record domain.tables { live = erase group domain.tables.site domain.tables.live };
+  saved = projected_registers group domain.tables.site domain.saved;
+}

@@ -19,8 +19,9 @@ use Rattle.mmi_registry.specs.ChainRule.{is_final, stops}
 use Rattle.mmi_registry.specs.Handlers.{handler_at}
 use Rattle.supervisor_calls.specs.Laws.{IsSite}
 use Rattle.supervisor_calls.specs.Tables.{Live}
+use Rattle.mm_groups.specs.ChainLaws.{erased_run}
 use Rattle.mm_groups.specs.Share.{is_of_group, own_invocations}
-use Rattle.mm_groups.proofs.HandlerRunLemmas.{IsReady, erased, erased_run, handler_left, handler_named, handler_ready, handler_same}
+use Rattle.mm_groups.proofs.HandlerRunLemmas.{IsReady, erased, handler_left, handler_named, handler_ready, handler_same}
 
 -- ---- handlers by their numbers
 
@@ -46,7 +47,7 @@ module _ (group : Group) (site : Site) (placed : IsSite site.supervised) (facts 
   left = erased group site placed facts
 
   abbrev left_run : Invoked → Invoked
-  left_run = erased_run group site placed facts
+  left_run = erased_run group site
 
   abbrev Ready : Live → Type 0
   Ready = IsReady group site placed facts

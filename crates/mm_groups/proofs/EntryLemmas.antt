@@ -27,9 +27,10 @@ use Rattle.mmi_registry.specs.ChainRule.{is_final}
 use Rattle.mmi_registry.specs.Handlers.{chain_of, handler_at}
 use Rattle.supervisor_calls.specs.Laws.{IsSite}
 use Rattle.supervisor_calls.specs.Tables.{Live}
+use Rattle.mm_groups.specs.ChainLaws.{erased_run}
 use Rattle.mm_groups.specs.Share.{Answer, Share, is_addressed, is_served_by, own_invocations, projected, share_of}
 use Rattle.mm_groups.proofs.ChainLemmas.{AreFound, AreOthers, AreOwn, RootsAlike, chain_ready, chain_same, invocations_same, live_same, message_same, none_own, others_left, roots_alike, runs_ready, statuses_same}
-use Rattle.mm_groups.proofs.HandlerRunLemmas.{IsReady, erased, erased_run}
+use Rattle.mm_groups.proofs.HandlerRunLemmas.{IsReady, erased}
 
 -- ---- all of some handlers
 
@@ -58,7 +59,7 @@ module _ (group : Group) (site : Site) (placed : IsSite site.supervised) (facts 
   left = erased group site placed facts
 
   abbrev left_run : Invoked → Invoked
-  left_run = erased_run group site placed facts
+  left_run = erased_run group site
 
   abbrev Ready : Live → Type 0
   Ready = IsReady group site placed facts
@@ -67,7 +68,7 @@ module _ (group : Group) (site : Site) (placed : IsSite site.supervised) (facts 
   seen saved = projected_registers group site.supervised saved
 
   -- the handlers of a GUID are all the group's, or none is
-  owners : (guid : Guid) (b : Bool) → is_served_by group site guid ≡ b
+  pub owners : (guid : Guid) (b : Bool) → is_served_by group site guid ≡ b
       → cond b (AreOwn group site placed facts (chain_of (Some guid) site.handlers)) (AreOthers group site placed facts (chain_of (Some guid) site.handlers))
   owners guid true is = own_from (is_handler_of group) (chain_of (Some guid) site.handlers) is
   owners guid false is = by_case (alike guid)
@@ -78,7 +79,7 @@ module _ (group : Group) (site : Site) (placed : IsSite site.supervised) (facts 
           absurd cc
       by_case (inr none) = none
 
-  chain_founds : (guid : Option Guid) → AreFound group site placed facts (chain_of guid site.handlers)
+  pub chain_founds : (guid : Option Guid) → AreFound group site placed facts (chain_of guid site.handlers)
   chain_founds guid = All-filter (λ h. option_eq same_guid h.guid guid) (λ h. handler_at h.number site.handlers ≡ Some h) site.handlers founds
 
   abbrev chain : Request → Live → List Invoked

@@ -6,11 +6,11 @@ use Rattle.std.proofs.lemmas.Option.{slice_get_within}
 use Rattle.domain_runs.proofs.RunLemmas.{run_keeps}
 use Rattle.domain_runs.specs.Runs.{ending}
 use Rattle.ebc_machine.specs.Invocation.{entered}
-use Rattle.image_groups.proofs.DomainLemmas.{Work, erased_in, erased_work, packed}
+use Rattle.image_groups.proofs.DomainLemmas.{Work, erased_work, packed}
 use Rattle.image_groups.proofs.GroupRunLemmas.{Leaves, run_inside, run_outside, stays_whole}
 use Rattle.image_groups.proofs.LiveLemmas.{AreGranted, AreSpared}
 use Rattle.image_groups.proofs.PackedLemmas.{IsAtWork}
-use Rattle.image_groups.specs.Erasing.{erase, masked, projected_registers}
+use Rattle.image_groups.specs.Erasing.{erase, erased_domain, masked, projected_registers}
 use Rattle.image_groups.specs.Groups.{Group, granted, is_body_of, is_handler_of}
 use Rattle.image_groups.specs.Laws.{Facts}
 use Rattle.image_groups.specs.RunLaws.{IsWhole}
@@ -34,6 +34,7 @@ use Rattle.mm_core.specs.CodeRun.{addresses, code_run, handed_back, left_by, mes
 use Rattle.mm_core.specs.CoreState.{Site}
 use Rattle.mm_core.specs.Invoked.{answered, by_body, code_invoked, invoked}
 use Rattle.mm_core.specs.Message.{Invoked, Message}
+use Rattle.mmi_registry.specs.Registry.{RegistryState}
 use Rattle.secure_policy.specs.Laws.{passes}
 use Rattle.secure_policy.specs.Verdicts.{units_from}
 use Rattle.supervisor_calls.proofs.WhereLemmas.{of_image}
@@ -41,7 +42,8 @@ use Rattle.supervisor_calls.specs.Accesses.{decided}
 use Rattle.supervisor_calls.specs.Domains.{DomainState}
 use Rattle.supervisor_calls.specs.Laws.{IsSite}
 use Rattle.supervisor_calls.specs.Services.{domain_meaning}
-use Rattle.supervisor_calls.specs.Tables.{Live}
+use Rattle.supervisor_calls.specs.Tables.{Live, Site as Supervised}
+use Rattle.mm_groups.specs.ChainLaws.{erased_run}
 use Rattle.mm_groups.proofs.MessageLemmas.{masked-with_message, message_in-masked, with_message-long, with_message-masked}
 
 module _ (group : Group) (site : Site) (placed : IsSite site.supervised) (facts : Facts group site.supervised) where
@@ -52,9 +54,9 @@ module _ (group : Group) (site : Site) (placed : IsSite site.supervised) (facts 
   abbrev pub erased : Live → Live
   erased = erase group site.supervised
 
-  -- the invocation and the message are the same, and what a step may change is erased
-  abbrev pub erased_run : Invoked → Invoked
-  erased_run run = record { invocation = run.invocation; message = run.message; live = erased run.live }
+  -- the handlers after lock
+  abbrev registry : RegistryState
+  registry = record { handlers = site.handlers; next = site.next_number; frozen = true }
 
   -- ---- the communicate page of an image
 
@@ -112,7 +114,14 @@ module _ (group : Group) (site : Site) (placed : IsSite site.supervised) (facts 
   }
 
   abbrev domain : ℕ → Work → DomainState
-  domain number = packed site.supervised (record { handlers = site.handlers; next = site.next_number; frozen = true }) site.interfaces site.pages number
+  domain number = packed site.supervised registry site.interfaces site.pages number
+
+  -- a domain with what isn't granted to the group erased, by this site
+  abbrev erased_at : Supervised → DomainState → DomainState
+  erased_at from domain = record domain {
+    tables = record domain.tables { live = erase group from domain.tables.live };
+    saved = projected_registers group from domain.saved;
+  }
 
   module _ (saved : Saved) (handler : Handler) (number address : ℕ) (image : PlacedImage) (is : slice_get site.supervised.images number ≡ Some image)
       (message : Message) (live : Live) (whole : IsWhole live) where
@@ -129,11 +138,11 @@ module _ (group : Group) (site : Site) (placed : IsSite site.supervised) (facts 
     }
 
     -- what is at work after the run
-    after_run : IsAtWork site.supervised (record { handlers = site.handlers; next = site.next_number; frozen = true }) site.interfaces site.pages number IsWhole (ran saved live).1
+    after_run : IsAtWork site.supervised registry site.interfaces site.pages number IsWhole (ran saved live).1
     unfolding code_run
     after_run =
-        run_keeps (IsAtWork site.supervised (record { handlers = site.handlers; next = site.next_number; frozen = true }) site.interfaces site.pages number IsWhole)
-        domain_meaning (stays_whole site.supervised placed (record { handlers = site.handlers; next = site.next_number; frozen = true }) site.interfaces site.pages number)
+        run_keeps (IsAtWork site.supervised registry site.interfaces site.pages number IsWhole)
+        domain_meaning (stays_whole site.supervised placed registry site.interfaces site.pages number)
         site.supervised.policy.fuel ((stack_of image.region).base + (stack_of image.region).length) address
         ((handler.number + 1) ∷ 0 ∷ addresses handler.guid image.region) (domain number (opening saved image.region message live))
         (opening saved image.region message live, (refl, filled_whole))
@@ -143,7 +152,7 @@ module _ (group : Group) (site : Site) (placed : IsSite site.supervised) (facts 
 
     -- inside the group
     run_same : group number ≡ true
-        → ran (projected_registers group site.supervised saved) (erased live) ≡ ((ran saved live).0, erased_in group site.supervised (ran saved live).1)
+        → ran (projected_registers group site.supervised saved) (erased live) ≡ ((ran saved live).0, erased_domain group (ran saved live).1)
     unfolding code_run
     run_same mine =
         let mask : with_message image.region message (masked 0 all live.memory) ≡ masked 0 all (with_message image.region message live.memory) =
@@ -156,7 +165,7 @@ module _ (group : Group) (site : Site) (placed : IsSite site.supervised) (facts 
           saved = projected_registers group site.supervised saved;
           records = record { denials = []; writes = [] };
         })))) mask
-        ∙ run_inside group site.supervised placed facts (record { handlers = site.handlers; next = site.next_number; frozen = true }) site.interfaces site.pages number (there number image is) mine
+        ∙ run_inside group site.supervised placed facts registry site.interfaces site.pages number (there number image is) mine
         site.supervised.policy.fuel ((stack_of image.region).base + (stack_of image.region).length) address
         ((handler.number + 1) ∷ 0 ∷ addresses handler.guid image.region) (opening saved image.region message live) filled_whole
 
@@ -168,18 +177,24 @@ module _ (group : Group) (site : Site) (placed : IsSite site.supervised) (facts 
         message_in-masked all image.region (ran saved live).1.tables.live.memory
         (page_within number image is (ran saved live).1.tables.live code_whole) (page_granted number image is mine) message
 
+    -- the site of the run's tables is the core's
+    site_stays : (ran saved live).1.tables.site ≡ site.supervised
+    site_stays = ap (λ (d : DomainState). d.tables.site) after_run.1.0
+
     pub code_same : group number ≡ true
         → left_by handler image.region message (ran (projected_registers group site.supervised saved) (erased live))
-        ≡ erased_run (left_by handler image.region message (ran saved live))
+        ≡ erased_run group site (left_by handler image.region message (ran saved live))
     code_same mine =
-        ap (left_by handler image.region message) (run_same mine)
-        ∙ ap (λ (m : Message). record (erased_run (left_by handler image.region message (ran saved live))) { message = m }) (handed_same mine handler.guid)
+        ap (left_by handler image.region message)
+        (run_same mine
+        ∙ ap (λ (s : Supervised). ((ran saved live).0, erased_at s (ran saved live).1)) site_stays)
+        ∙ ap (λ (m : Message). record (erased_run group site (left_by handler image.region message (ran saved live))) { message = m }) (handed_same mine handler.guid)
 
     -- outside the group
     pub code_left : group number ≡ false → erased (left_by handler image.region message (ran saved live)).live ≡ erased live
     unfolding code_run
     code_left other =
-        let p = run_outside group site.supervised placed facts (record { handlers = site.handlers; next = site.next_number; frozen = true }) site.interfaces site.pages number (there number image is) other
+        let p = run_outside group site.supervised placed facts registry site.interfaces site.pages number (there number image is) other
         site.supervised.policy.fuel ((stack_of image.region).base + (stack_of image.region).length) address
         ((handler.number + 1) ∷ 0 ∷ addresses handler.guid image.region) (opening saved image.region message live) filled_whole in
         ap (λ (d : DomainState). erased d.tables.live) p.1.0
@@ -194,19 +209,19 @@ module _ (group : Group) (site : Site) (placed : IsSite site.supervised) (facts 
 
   module _ (saved : Saved) (handler : Handler) (message : Message) (live : Live) (ready : IsReady live) where
     pub handler_same : is_handler_of group handler ≡ true
-        → invoked site (projected_registers group site.supervised saved) handler message (erased live) ≡ erased_run (invoked site saved handler message live)
+        → invoked site (projected_registers group site.supervised saved) handler message (erased live) ≡ erased_run group site (invoked site saved handler message live)
     unfolding invoked
     handler_same mine = of_body handler.body mine
       where
         of_image_at : (number address : ℕ) (found : Option PlacedImage) → slice_get site.supervised.images number ≡ found → group number ≡ true
             → code_invoked site (projected_registers group site.supervised saved) handler number address found message (erased live)
-            ≡ erased_run (code_invoked site saved handler number address found message live)
+            ≡ erased_run group site (code_invoked site saved handler number address found message live)
         of_image_at number address None is mine = refl
         of_image_at number address (Some image) is mine = code_same saved handler number address image is message live (ready number image is) mine
 
         of_body : (body : HandlerBody) → is_body_of group body ≡ true
             → by_body site (projected_registers group site.supervised saved) handler body message (erased live)
-            ≡ erased_run (by_body site saved handler body message live)
+            ≡ erased_run group site (by_body site saved handler body message live)
         of_body Version mine = absurd cc
         of_body (Stub status) mine = absurd cc
         of_body (Code number address) mine = of_image_at number address (slice_get site.supervised.images number) refl mine

@@ -1,3 +1,4 @@
+pub mod ChainLawLemmas
 pub mod ChainLemmas
 pub mod CoreLemmas
 pub mod EntryLemmas
