@@ -7,7 +7,6 @@ use Rattle.ebc_machine.specs.declared.regs.Regs.{Regs}
 use Rattle.ebc_machine.proofs.CarryLemmas.{invoked_along, stepped_along}
 use Rattle.mm_base.specs.Bus.{Meaning}
 use Rattle.mm_base.specs.declared.access.Denial.{Denial}
-use Rattle.mm_base.specs.declared.invocation.Ended.{Ended}
 use Rattle.domain_runs.specs.Runs.{ending}
 
 -- Each call of the second bus is that of the first one, through a map of buses, where something holds of the first.

@@ -1,26 +1,25 @@
 -- Where an access lies that passes: of each kind in its cells, of bytes in memory or in the device window. It has some unit.
-use Rattle.std.proofs.Common.{◌≡◌, ◌≢◌, ◌⊎◌, inl, inr, ℕ, zero, suc, ◌+◌, ◌-◌, ◌≤◌, ◌<◌, ◌^◌, Bool, true, false, ◌&&◌, if◌then◌else◌, nat_lt, List, [], ◌∷◌, refl, sym, ap, ◌∙◌, arith}
+use Rattle.std.proofs.Common.{◌≡◌, ◌≢◌, ◌⊎◌, inl, inr, ℕ, zero, suc, ◌+◌, ◌≤◌, ◌^◌, Bool, true, false, ◌&&◌, if◌then◌else◌, nat_lt, List}
+use Rattle.std.proofs.Common.{[], ◌∷◌, refl, sym, ap, ◌∙◌, arith}
 use Rattle.std.proofs.lemmas.Bool.Decides.{nat_tests}
 use Rattle.image_table.specs.ImageTable.{name_at}
-use Rattle.mm_base.specs.Cells.{is_device_byte, is_msr}
+use Rattle.mm_base.specs.Cells.{is_msr}
 use Rattle.mm_base.specs.Platform.{mmram, lane_window, device_window}
-use Rattle.mm_base.specs.Range.{Has, encloses, share_a_unit}
+use Rattle.mm_base.specs.Range.{encloses, share_a_unit}
 use Rattle.mm_base.specs.declared.access.Kind.{Kind}
 use Rattle.mm_base.specs.declared.access.Kind.TheVariants.{Memory, Io, Msr, Saved}
 use Rattle.mm_base.specs.declared.access.Right.{Right}
 use Rattle.mm_base.specs.declared.access.Verdict.{Verdict}
 use Rattle.mm_base.specs.declared.access.Verdict.TheVariants.{Pass, Deny}
 use Rattle.mm_base.specs.declared.access.Why.TheVariants as whys
-use Rattle.mm_base.specs.declared.guid.Guid.{Guid}
 use Rattle.mm_base.specs.declared.policy.Rule.{Rule}
 use Rattle.mm_base.specs.declared.range.Range.{Range}
 use Rattle.secure_policy.specs.Laws.{passes}
 use Rattle.secure_policy.specs.Places.{have_cells, place_of, place_of_bytes, place_of_cells}
-use Rattle.secure_policy.specs.Verdicts.{verdict_on, verdict_at, verdict_by_rules, is_about, is_allowed_by, is_for, units_from}
-use Rattle.secure_policy.specs.declared.place.Place.{Place}
+use Rattle.secure_policy.specs.Verdicts.{verdict_on, verdict_at, verdict_by_rules, is_about, is_allowed_by, units_from}
 use Rattle.secure_policy.specs.declared.place.Place.TheVariants.{Nowhere, Mmram, LaneWindow, Cells}
 use Rattle.supervisor_calls.specs.Accesses.{decided}
-use Rattle.supervisor_calls.specs.Domains.{DomainState, verdict_in}
+use Rattle.supervisor_calls.specs.Domains.{DomainState}
 use Rattle.supervisor_calls.specs.Laws.{IsSite}
 use Rattle.supervisor_calls.specs.Tables.{Site}
 use Rattle.supervisor_calls.proofs.OutsideLemmas.{LiesIn, passed_lies}
@@ -36,7 +35,8 @@ no_rule_about : (rules : List Rule) (k : ℕ) (name : _) (kind : Kind) (at : ℕ
     → passes (verdict_by_rules rules k name kind (units_from at 0) right) ≡ false
 no_rule_about [] k name kind at right = refl
 no_rule_about (rule ∷ rules) k name kind at right =
-    ap (λ (b : Bool). passes (if b then (if is_allowed_by (units_from at 0) right rule then Pass (whys.Rule k) else Deny (whys.Rule k)) else verdict_by_rules rules (suc k) name kind (units_from at 0) right))
+    ap (λ (b : Bool). passes (if b then (if is_allowed_by (units_from at 0) right rule then Pass (whys.Rule k) else Deny (whys.Rule k))
+    else verdict_by_rules rules (suc k) name kind (units_from at 0) right))
     about
     ∙ no_rule_about rules (suc k) name kind at right
   where
@@ -81,7 +81,9 @@ module _ (site : Site) (image : ℕ) (right : Right) (trapped : ℕ) where
   unfolding decided verdict_on
   not_none kind at n none pass = by_case (by_place _ _ _ pass)
     where
-      by_case : {P Q : Type 0} → ((place_of kind (units_from at n) ≡ Mmram) × P) ⊎ (Q × (passes (verdict_by_rules site.policy.rules 0 (name_at site.images image) kind (units_from at n) right) ≡ true)) → ⊥
+      by_case : {P Q : Type 0}
+          → ((place_of kind (units_from at n) ≡ Mmram) × P)
+          ⊎ (Q × (passes (verdict_by_rules site.policy.rules 0 (name_at site.images image) kind (units_from at n) right) ≡ true)) → ⊥
       by_case (inl home) = no_cells kind at n none home.0
       by_case (inr cells) =
           let no : passes (verdict_by_rules site.policy.rules 0 (name_at site.images image) kind (units_from at n) right) ≡ false =
@@ -100,7 +102,8 @@ module _ (site : Site) (image : ℕ) (right : Right) (trapped : ℕ) where
   on_cells true home ruled pass = refl
   on_cells false home ruled pass = absurd cc
 
-  pub cells_there : (kind : Kind) (at n : ℕ) → kind ≢ Memory → passes (decided site image kind at n right trapped) ≡ true → have_cells kind at n ≡ true
+  pub cells_there : (kind : Kind) (at n : ℕ) → kind ≢ Memory → passes (decided site image kind at n right trapped) ≡ true
+      → have_cells kind at n ≡ true
   unfolding decided verdict_on
   cells_there Memory at n other pass = absurd (other refl)
   cells_there Io at n other pass = on_cells (have_cells Io at n) _ _ pass

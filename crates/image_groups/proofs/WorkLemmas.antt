@@ -1,5 +1,5 @@
 -- The laws of what runs for a group of images, from what is shown of packed domains.
-use Rattle.std.proofs.Common.{◌≡◌, ℕ, ◌<◌, Bool, true, false, List, length, refl, sym, ap, ◌∙◌, subst}
+use Rattle.std.proofs.Common.{ℕ, true, false, List, refl, sym, ap, ◌∙◌, subst}
 use Rattle.domain_runs.proofs.RunLemmas.{run_keeps}
 use Rattle.ebc_machine.proofs.KeepLemmas.{stepped_keeps}
 use Rattle.ebc_machine.specs.Laws.{Keeps}
@@ -14,7 +14,7 @@ use Rattle.image_groups.specs.Laws.{Facts}
 use Rattle.image_groups.specs.RunLaws.{EachCallGoesAlong, EachCallOutsideLeavesNothing, ImagesStayAtWork, InstructionsGoAlong}
 use Rattle.image_groups.specs.RunLaws.{InstructionsOutsideLeaveNothing, InvocationsGoAlong, InvocationsOutsideLeaveNothing}
 use Rattle.image_groups.specs.RunLaws.{IsAtWorkIn, IsSpared, IsWhole, Works}
-use Rattle.image_groups.proofs.DomainLemmas.{Work, packed}
+use Rattle.image_groups.proofs.DomainLemmas.{Work}
 use Rattle.image_groups.proofs.FactLemmas.{closed_groups_have_facts}
 use Rattle.image_groups.proofs.GroupRunLemmas.{Leaves, carries, left_kept, stays_whole}
 use Rattle.image_groups.proofs.InvocationLemmas.{CarriesWhere, run_along_where, stepped_along_where}

@@ -7,7 +7,6 @@ use Rattle.ebc_machine.specs.Laws.{Keeps}
 use Rattle.ebc_machine.specs.Stepping.{stepped}
 use Rattle.ebc_machine.specs.declared.regs.Regs.{Regs}
 use Rattle.mm_base.specs.declared.handler.Handler.{Handler}
-use Rattle.mm_base.specs.declared.invocation.Ended.{Ended}
 use Rattle.platform_model.specs.Cells.{IsPlatform}
 use Rattle.supervisor_calls.specs.Domains.{DomainState, fetched, read_at, target_at, written_at}
 use Rattle.supervisor_calls.specs.Laws.{IsSite, along}
