@@ -1,5 +1,7 @@
 -- A domain of an image of a closed group goes along with erasing: each of its calls is answered the same, and leaves what it leaves, erased.
-use Rattle.std.proofs.Common.{◌≡◌, ◌≢◌, ◌⊎◌, inl, inr, ℕ, ◌+◌, ◌-◌, ◌*◌, ◌%◌, ◌^◌, ◌≤◌, ◌<◌, Bool, true, false, ◌&&◌, if◌then◌else◌, nat_lt, ◌==◌, List, [], ◌∷◌, ◌++◌, length, get_or, set, replicate, Option, Some, None, Result, Ok, Err, refl, sym, ap, ◌∙◌, subst, arith}
+use Rattle.std.proofs.Common.{◌≡◌, ◌≢◌, ◌⊎◌, inl, inr, ℕ, ◌+◌, ◌-◌, ◌*◌, ◌%◌, ◌^◌, ◌≤◌, ◌<◌, Bool, true, false, ◌&&◌, if◌then◌else◌}
+use Rattle.std.proofs.Common.{nat_lt, ◌==◌, List, [], ◌∷◌, ◌++◌, length, get_or, set, replicate, Option, Some, None, Result, Ok, Err, refl, sym, ap}
+use Rattle.std.proofs.Common.{◌∙◌, subst, arith}
 use Rattle.std.specs.List.{slice_get}
 use Rattle.std.specs.Option.{option_map_or}
 use Rattle.mm_base.specs.Numbers.{low_bytes, number_of}
@@ -24,20 +26,26 @@ use Rattle.mm_memory.proofs.PageLemmas.{length-zeros}
 use Rattle.pool_tree.specs.Pool.{Block}
 use Rattle.protocol_db.specs.ProtocolDb.{DbState}
 use Rattle.secure_policy.specs.Laws.{passes}
-use Rattle.supervisor_calls.specs.Accesses.{answered, target_by, service_of, bytes_at, changed, denial_of, number_at, with_bytes, with_cell_write, with_number, with_quota}
+use Rattle.supervisor_calls.specs.Accesses.{answered, target_by, service_of, bytes_at, changed, denial_of, number_at, with_bytes}
+use Rattle.supervisor_calls.specs.Accesses.{with_cell_write, with_number, with_quota}
 use Rattle.supervisor_calls.specs.Deeds.{Deed, Returns, Reads, Names, Asks, Writes, Clears, SeesPool, SetsPool, SeesReserve, SetsReserve}
 use Rattle.supervisor_calls.specs.Deeds.{SeesHandlers, SetsHandlers, SeesInterfaces, SetsInterfaces, going_on, let_through, done}
-use Rattle.supervisor_calls.specs.Deeds.{after_clearing, after_write, refusal, with_denied}
-use Rattle.supervisor_calls.specs.Domains.{DomainState, acted, acting_of, fetched, read_at, target_at, trapped_of, verdict_in, with_acting, write_verdict, written_at}
+use Rattle.supervisor_calls.specs.Deeds.{after_clearing, after_write}
+use Rattle.supervisor_calls.specs.Deeds.{refusal, with_denied}
+use Rattle.supervisor_calls.specs.Domains.{DomainState, acted, acting_of, fetched, read_at, target_at, trapped_of, verdict_in}
+use Rattle.supervisor_calls.specs.Domains.{with_acting, write_verdict, written_at}
 use Rattle.supervisor_calls.specs.Laws.{IsSite, along}
-use Rattle.supervisor_calls.specs.Services.{all_services, and_then, argument, argument_count, arguments_at, deed_of, ends_at_lock, region_in, served, served_by_number, stopping}
+use Rattle.supervisor_calls.specs.Services.{all_services, and_then, argument, argument_count, arguments_at, deed_of, ends_at_lock, region_in, served}
+use Rattle.supervisor_calls.specs.Services.{served_by_number, stopping}
 use Rattle.supervisor_calls.specs.Tables.{Live, Site}
 use Rattle.supervisor_calls.proofs.CellLemmas.{passes_without_quota}
 use Rattle.image_groups.specs.Erasing.{erase, erased_domain, projected_registers, trapped_in}
 use Rattle.image_groups.specs.Groups.{Group}
 use Rattle.image_groups.specs.Laws.{Facts}
 use Rattle.image_groups.specs.RunLaws.{IsWhole}
-use Rattle.image_groups.proofs.LiveLemmas.{AreGranted, bytes_same, few_low, ports-erased, ports-whole, ports_same, register-erased, register-whole, register_same, with_bytes-erased, with_bytes-whole}
+use Rattle.image_groups.proofs.LiveLemmas.{AreGranted, bytes_same, few_low, ports-erased}
+use Rattle.image_groups.proofs.LiveLemmas.{ports-whole, ports_same, register-erased, register-whole, register_same, with_bytes-erased}
+use Rattle.image_groups.proofs.LiveLemmas.{with_bytes-whole}
 use Rattle.image_groups.proofs.MaskLemmas.{get_or-masked, set-masked}
 use Rattle.image_groups.proofs.PlaceLemmas.{bytes_where, cells_there, ports_within, register_there, some_unit}
 
@@ -77,7 +85,8 @@ module _ (site : Site) (placed : IsSite site) (registry : RegistryState) (protoc
   pub with_number-whole : (work : Work) → IsWhole work.live → (kind : Kind) (at n value : ℕ)
       → passes (verdict_in (domain_of work) kind at n rights.Write) ≡ true → IsWhole (with_number kind at n value work.live)
   with_number-whole work whole kinds.Memory at n value pass =
-      with_bytes-whole (λ k. false) site work.live whole at n (low_bytes n value) (few_low n value) (passed_number work kinds.Memory at n rights.Write pass)
+      with_bytes-whole (λ k. false) site work.live whole at n (low_bytes n value) (few_low n value)
+      (passed_number work kinds.Memory at n rights.Write pass)
       (bytes_where (domain_of work) placed at n (trapped_of (domain_of work)) rights.Write pass)
   with_number-whole work whole kinds.Io at n value pass =
       ports-whole (λ k. false) site work.live whole at n (low_bytes n value) (few_low n value)
@@ -92,7 +101,8 @@ module _ (site : Site) (placed : IsSite site) (registry : RegistryState) (protoc
   pub cleared-whole : (work : Work) → IsWhole work.live → (at n : ℕ)
       → passes (verdict_in (domain_of work) kinds.Memory at n rights.Write) ≡ true → IsWhole (with_bytes at (zeros n) work.live)
   cleared-whole work whole at n pass =
-      with_bytes-whole (λ k. false) site work.live whole at n (zeros n) (omega (arith, length-zeros n)) (passed_number work kinds.Memory at n rights.Write pass)
+      with_bytes-whole (λ k. false) site work.live whole at n (zeros n) (omega (arith, length-zeros n))
+      (passed_number work kinds.Memory at n rights.Write pass)
       (bytes_where (domain_of work) placed at n (trapped_of (domain_of work)) rights.Write pass)
 
 module _ (group : Group) (site : Site) (placed : IsSite site) (facts : Facts group site) (registry : RegistryState) (protocols : DbState)
@@ -200,7 +210,8 @@ module _ (group : Group) (site : Site) (placed : IsSite site) (facts : Facts gro
       → with_acting (domain (erased work)) (answered other denial seen (acting_of (domain (erased work))))
       ≡ along change (with_acting (domain work) (answered verdict denial value (acting_of (domain work))))
   answered_along verdict other denial value seen work same is =
-      ap (λ (v : Verdict). with_acting (domain (erased work)) (answered v denial seen (acting_of (domain (erased work))))) same ∙ by_verdict verdict is
+      ap (λ (v : Verdict). with_acting (domain (erased work)) (answered v denial seen (acting_of (domain (erased work))))) same
+      ∙ by_verdict verdict is
     where
       by_verdict : (verdict : Verdict) → (passes verdict ≡ true → seen ≡ value)
           → with_acting (domain (erased work)) (answered verdict denial seen (acting_of (domain (erased work))))
@@ -211,7 +222,8 @@ module _ (group : Group) (site : Site) (placed : IsSite site) (facts : Facts gro
   pub fetched_along : (work : Work) (at n : ℕ) → fetched (domain (erased work)) at n ≡ along change (fetched (domain work) at n)
   fetched_along work at n =
       answered_along (verdict_in (domain work) kinds.Memory at n rights.Execute) (verdict_in (domain (erased work)) kinds.Memory at n rights.Execute)
-      (denial_of kinds.Memory rights.Execute at n) (bytes_at work.live at n ++ replicate (18 - n) 0) (bytes_at (erase group site work.live) at n ++ replicate (18 - n) 0) work
+      (denial_of kinds.Memory rights.Execute at n) (bytes_at work.live at n ++ replicate (18 - n) 0)
+      (bytes_at (erase group site work.live) at n ++ replicate (18 - n) 0) work
       (same_verdict work kinds.Memory at n rights.Execute)
       (λ pass. ap (λ (bytes : List ℕ). bytes ++ replicate (18 - n) 0) (bytes_seen work at n rights.Execute pass))
 
@@ -223,21 +235,32 @@ module _ (group : Group) (site : Site) (placed : IsSite site) (facts : Facts gro
       (λ pass. ap number_of (bytes_seen work at n rights.Read pass))
 
   changed_along : (verdict other : Verdict) (at n value : ℕ) (work : Work) → other ≡ verdict
-      → (passes verdict ≡ true → with_number kinds.Memory at n value (erase group site work.live) ≡ erase group site (with_number kinds.Memory at n value work.live))
+      → (passes verdict ≡ true → with_number kinds.Memory at n value (erase group site work.live)
+      ≡ erase group site (with_number kinds.Memory at n value work.live))
       → with_acting (domain (erased work)) (changed other kinds.Memory at n value (acting_of (domain (erased work))))
       ≡ along change (with_acting (domain work) (changed verdict kinds.Memory at n value (acting_of (domain work))))
   changed_along verdict other at n value work same is =
-      ap (λ (v : Verdict). with_acting (domain (erased work)) (changed v kinds.Memory at n value (acting_of (domain (erased work))))) same ∙ by_verdict verdict is
+      ap (λ (v : Verdict). with_acting (domain (erased work)) (changed v kinds.Memory at n value (acting_of (domain (erased work))))) same
+      ∙ by_verdict verdict is
     where
       by_verdict : (verdict : Verdict)
-          → (passes verdict ≡ true → with_number kinds.Memory at n value (erase group site work.live) ≡ erase group site (with_number kinds.Memory at n value work.live))
+          → (passes verdict ≡ true → with_number kinds.Memory at n value (erase group site work.live)
+          ≡ erase group site (with_number kinds.Memory at n value work.live))
           → with_acting (domain (erased work)) (changed verdict kinds.Memory at n value (acting_of (domain (erased work))))
           ≡ along change (with_acting (domain work) (changed verdict kinds.Memory at n value (acting_of (domain work))))
       by_verdict (Pass why) is =
-          ap (λ (live : Live). (Ok tt, domain (record { live = live; saved = projected_registers group site work.saved; records = with_cell_write kinds.Memory at n value work.records })))
+          ap (λ (live : Live). (
+            Ok tt,
+            domain (record {
+              live = live;
+              saved = projected_registers group site work.saved;
+              records = with_cell_write kinds.Memory at n value work.records;
+            }),
+          ))
           (is refl)
       by_verdict (Deny why) is =
-          ap (λ (d : DomainState). (Err (denial_of kinds.Memory rights.Write at n why), d)) (denied_along (denial_of kinds.Memory rights.Write at n why) work)
+          ap (λ (d : DomainState). (Err (denial_of kinds.Memory rights.Write at n why), d))
+          (denied_along (denial_of kinds.Memory rights.Write at n why) work)
 
   pub written_along : (work : Work) → IsWhole work.live → (at n value : ℕ)
       → written_at (domain (erased work)) at n value ≡ along change (written_at (domain work) at n value)
@@ -272,13 +295,16 @@ module _ (group : Group) (site : Site) (placed : IsSite site) (facts : Facts gro
   done_along : (deed : Deed) (work : Work) → IsWhole work.live → done deed (domain (erased work)) ≡ along change (done deed (domain work))
   done_along (Returns status) work whole = refl
   done_along (Reads kind at n next) work whole =
-      let_along (verdict_in (domain work) kind at n rights.Read) (verdict_in (domain (erased work)) kind at n rights.Read) (denial_of kind rights.Read at n)
+      let_along (verdict_in (domain work) kind at n rights.Read) (verdict_in (domain (erased work)) kind at n rights.Read)
+      (denial_of kind rights.Read at n)
       (number_at work.live work.saved kind at n) (number_at (erase group site work.live) (projected_registers group site work.saved) kind at n)
       (domain (erased work)) (domain work) work (λ value d. done (next value) d) (same_verdict work kind at n rights.Read)
       (λ pass. number_same work kind at n pass) (λ pass. done_along (next (number_at work.live work.saved kind at n)) work whole)
   done_along (Names pointer next) work whole =
-      let_along {A = Guid} (verdict_in (domain work) kinds.Memory pointer 16 rights.Read) (verdict_in (domain (erased work)) kinds.Memory pointer 16 rights.Read)
-      (denial_of kinds.Memory rights.Read pointer 16) (record { 0 = bytes_at work.live pointer 16 }) (record { 0 = bytes_at (erase group site work.live) pointer 16 })
+      let_along {A = Guid} (verdict_in (domain work) kinds.Memory pointer 16 rights.Read)
+      (verdict_in (domain (erased work)) kinds.Memory pointer 16 rights.Read)
+      (denial_of kinds.Memory rights.Read pointer 16) (record { 0 = bytes_at work.live pointer 16 })
+      (record { 0 = bytes_at (erase group site work.live) pointer 16 })
       (domain (erased work)) (domain work) work (λ guid d. done (next guid) d) (same_verdict work kinds.Memory pointer 16 rights.Read)
       (λ pass. ap (λ (bytes : List ℕ). record { 0 = bytes }) (bytes_seen work pointer 16 rights.Read pass))
       (λ pass. done_along (next (record { 0 = bytes_at work.live pointer 16 })) work whole)
@@ -290,15 +316,21 @@ module _ (group : Group) (site : Site) (placed : IsSite site) (facts : Facts gro
       let_along {A = Unit {0}} (write_verdict (domain work) kind at n) (write_verdict (domain (erased work)) kind at n)
       (denial_of kind rights.Write at n) tt tt (after_write kind at n value (domain (erased work))) (after_write kind at n value (domain work)) work
       (λ done_it d. done next d) (same_limit work kind at n) (λ pass. refl)
-      (λ pass. ap (λ (live : Live). done next (domain (record { live = live; saved = projected_registers group site work.saved; records = with_cell_write kind at n value work.records })))
+      (λ pass. ap (λ (live : Live). done next
+      (domain (record { live = live; saved = projected_registers group site work.saved; records = with_cell_write kind at n value work.records })))
       (number_erased work whole kind at n value (without_limit work kind at n pass))
-      ∙ done_along next (record { live = with_number kind at n value work.live; saved = work.saved; records = with_cell_write kind at n value work.records })
+      ∙ done_along next (record {
+        live = with_number kind at n value work.live;
+        saved = work.saved;
+        records = with_cell_write kind at n value work.records;
+      })
       (with_number-whole site placed registry protocols pages image work whole kind at n value (without_limit work kind at n pass)))
   done_along (Clears at n next) work whole =
       let_along {A = Unit {0}} (write_verdict (domain work) kinds.Memory at n) (write_verdict (domain (erased work)) kinds.Memory at n)
       (denial_of kinds.Memory rights.Write at n) tt tt (after_clearing at n (domain (erased work))) (after_clearing at n (domain work)) work
       (λ done_it d. done next d) (same_limit work kinds.Memory at n) (λ pass. refl)
-      (λ pass. ap (λ (live : Live). done next (domain (record { live = live; saved = projected_registers group site work.saved; records = work.records })))
+      (λ pass. ap (λ (live : Live). done next
+      (domain (record { live = live; saved = projected_registers group site work.saved; records = work.records })))
       (clearing_erased work whole at n (without_limit work kinds.Memory at n pass))
       ∙ done_along next (record { live = with_bytes at (zeros n) work.live; saved = work.saved; records = work.records })
       (cleared-whole site placed registry protocols pages image work whole at n (without_limit work kinds.Memory at n pass)))
@@ -308,14 +340,18 @@ module _ (group : Group) (site : Site) (placed : IsSite site) (facts : Facts gro
   done_along (SetsPool pool next) work whole =
       ap (λ (pools : List (List Block)). done next (domain (record (erased work) { live = record (erase group site work.live) { pools = pools } })))
       (set-masked [] group work.live.pools image pool mine)
-      ∙ done_along next (record work { live = record work.live { pools = set work.live.pools image pool } }) (record { memory = whole.memory; cells = whole.cells })
+      ∙ done_along next (record work { live = record work.live { pools = set work.live.pools image pool } })
+      (record { memory = whole.memory; cells = whole.cells })
   done_along (SeesReserve next) work whole =
-      ap (λ (reserve : List Bool). done (next reserve) (domain (erased work))) (get_or-masked (replicate 16 false) group work.live.reserves image [] mine)
+      ap (λ (reserve : List Bool). done (next reserve) (domain (erased work)))
+      (get_or-masked (replicate 16 false) group work.live.reserves image [] mine)
       ∙ done_along (next (get_or work.live.reserves image [])) work whole
   done_along (SetsReserve reserve next) work whole =
-      ap (λ (reserves : List (List Bool)). done next (domain (record (erased work) { live = record (erase group site work.live) { reserves = reserves } })))
+      ap (λ (reserves : List (List Bool)). done next
+      (domain (record (erased work) { live = record (erase group site work.live) { reserves = reserves } })))
       (set-masked (replicate 16 false) group work.live.reserves image reserve mine)
-      ∙ done_along next (record work { live = record work.live { reserves = set work.live.reserves image reserve } }) (record { memory = whole.memory; cells = whole.cells })
+      ∙ done_along next (record work { live = record work.live { reserves = set work.live.reserves image reserve } })
+      (record { memory = whole.memory; cells = whole.cells })
   done_along (SeesHandlers next) work whole = done_along (next registry) work whole
   done_along (SetsHandlers others next) work whole = done_along next work whole
   done_along (SeesInterfaces next) work whole = done_along (next protocols) work whole
@@ -358,23 +394,31 @@ module _ (group : Group) (site : Site) (placed : IsSite site) (facts : Facts gro
       stop verdict value work =
           stopping (with_acting (domain work) (answered verdict (denial_of kinds.Memory rights.Read at 8) value (acting_of (domain work))))
 
-      by_same : (verdict : Verdict) → (passes verdict ≡ true → number_of (bytes_at (erase group site work.live) at 8) ≡ number_of (bytes_at work.live at 8))
-          → Agree work (stop verdict (number_of (bytes_at (erase group site work.live) at 8)) (erased work)) (stop verdict (number_of (bytes_at work.live at 8)) work)
+      by_same : (verdict : Verdict) → (passes verdict ≡ true
+          → number_of (bytes_at (erase group site work.live) at 8) ≡ number_of (bytes_at work.live at 8))
+          → Agree work (stop verdict (number_of (bytes_at (erase group site work.live) at 8)) (erased work))
+          (stop verdict (number_of (bytes_at work.live at 8)) work)
       by_same (Pass why) is = inl (number_of (bytes_at work.live at 8), (ap (λ (v : ℕ). (Ok v, domain (erased work))) (is refl), refl))
       by_same (Deny why) is =
           inr (
             Stop (denial_of kinds.Memory rights.Read at 8 why),
             (
               with_denied (denial_of kinds.Memory rights.Read at 8 why) (domain work),
-              (ap (λ (d : DomainState). (Err (Stop (denial_of kinds.Memory rights.Read at 8 why)), d)) (denied_along (denial_of kinds.Memory rights.Read at 8 why) work), refl),
+              (
+                ap (λ (d : DomainState). (Err (Stop (denial_of kinds.Memory rights.Read at 8 why)), d))
+                    (denied_along (denial_of kinds.Memory rights.Read at 8 why) work),
+                refl,
+              ),
             ),
           )
 
       by_verdict : (verdict other : Verdict) → other ≡ verdict
           → (passes verdict ≡ true → number_of (bytes_at (erase group site work.live) at 8) ≡ number_of (bytes_at work.live at 8))
-          → Agree work (stop other (number_of (bytes_at (erase group site work.live) at 8)) (erased work)) (stop verdict (number_of (bytes_at work.live at 8)) work)
+          → Agree work (stop other (number_of (bytes_at (erase group site work.live) at 8)) (erased work))
+          (stop verdict (number_of (bytes_at work.live at 8)) work)
       by_verdict verdict other same is =
-          subst (λ (v : Verdict). Agree work (stop v (number_of (bytes_at (erase group site work.live) at 8)) (erased work)) (stop verdict (number_of (bytes_at work.live at 8)) work))
+          subst (λ (v : Verdict). Agree work (stop v (number_of (bytes_at (erase group site work.live) at 8)) (erased work))
+          (stop verdict (number_of (bytes_at work.live at 8)) work))
           (sym same) (by_same verdict is)
 
   argument_agrees : (n stack k : ℕ) (work : Work) → Agree work (argument n stack k (domain (erased work))) (argument n stack k (domain work))
@@ -412,7 +456,8 @@ module _ (group : Group) (site : Site) (placed : IsSite site) (facts : Facts gro
           ≡ along change (if ends then (Status access_denied, domain work) else rest (domain work))
       by_test true = refl
       by_test false =
-          going_agrees work (arguments_at (argument_count service) stack (domain (erased work))) (arguments_at (argument_count service) stack (domain work))
+          going_agrees work (arguments_at (argument_count service) stack (domain (erased work)))
+          (arguments_at (argument_count service) stack (domain work))
           (λ arguments d. done (deed_of d.image (region_in d) service arguments) d) (arguments_agree (argument_count service) stack work)
           (λ arguments. done_along (deed_of image (region_in (domain work)) service arguments) work whole)
 

@@ -22,7 +22,8 @@ use Rattle.image_groups.specs.Erasing.{erase, erased_domain}
 use Rattle.image_groups.specs.Groups.{Group}
 use Rattle.image_groups.specs.Laws.{Facts}
 use Rattle.image_groups.specs.RunLaws.{IsWhole}
-use Rattle.image_groups.proofs.DomainLemmas.{Work, by_number_along, cleared-whole, erased_work, fetched_along, packed, read_along, target_along, with_number-whole, written_along}
+use Rattle.image_groups.proofs.DomainLemmas.{Work, by_number_along, cleared-whole, erased_work, fetched_along, packed, read_along, target_along}
+use Rattle.image_groups.proofs.DomainLemmas.{with_number-whole, written_along}
 use Rattle.image_groups.proofs.InvocationLemmas.{CarriesWhere, run_along_where}
 use Rattle.image_groups.proofs.LiveLemmas.{AreSpared, erased-ports, erased-register, erased-with_bytes, few_low}
 use Rattle.image_groups.proofs.MaskLemmas.{masked-set_other}
@@ -64,7 +65,8 @@ module _ (group : Group) (site : Site) (placed : IsSite site) (facts : Facts gro
       targets = λ d at p. subst (λ x. target_at (erased_domain group x) at ≡ target_at x at) (sym p.1.0)
           (target_along group site placed facts registry protocols pages image there mine p.0 at);
       serves = λ d number stack p.
-          subst (λ x. served_by_number number stack (erased_domain group x) ≡ along (erased_domain group) (served_by_number number stack x)) (sym p.1.0)
+          subst (λ x. served_by_number number stack (erased_domain group x) ≡ along (erased_domain group) (served_by_number number stack x))
+          (sym p.1.0)
           (by_number_along group site placed facts registry protocols pages image there mine number stack p.0 p.1.1);
     }
       where
@@ -100,7 +102,8 @@ module _ (group : Group) (site : Site) (placed : IsSite site) (facts : Facts gro
         (spared work kinds.Memory at n (λ e. cc) pass)
     number_left work whole kinds.Io at n value pass =
         erased-ports group site work.live whole at n (low_bytes n value) (few_low n value)
-        (ports_within at n (some work kinds.Io at n pass) (cells_there site image rights.Write (trapped_of (domain work)) kinds.Io at n (λ e. cc) pass))
+        (ports_within at n (some work kinds.Io at n pass)
+        (cells_there site image rights.Write (trapped_of (domain work)) kinds.Io at n (λ e. cc) pass))
         (spared work kinds.Io at n (λ e. cc) pass)
     number_left work whole kinds.Msr at n value pass =
         erased-register group site work.live at n value (some work kinds.Msr at n pass)
@@ -132,7 +135,8 @@ module _ (group : Group) (site : Site) (placed : IsSite site) (facts : Facts gro
       );
       pool = λ pool live has. (
         record { memory = has.0.memory; cells = has.0.cells },
-        ap (λ (pools : List (List Block)). record (erase group site live) { pools = pools }) (masked-set_other [] group live.pools image pool other) ∙ has.1,
+        ap (λ (pools : List (List Block)). record (erase group site live) { pools = pools }) (masked-set_other [] group live.pools image pool other)
+            ∙ has.1,
       );
       reserve = λ reserve live has. (
         record { memory = has.0.memory; cells = has.0.cells },

@@ -1,5 +1,6 @@
 -- What is granted to a group is the same after erasing, and what isn't granted may change without a trace.
-use Rattle.std.proofs.Common.{◌≡◌, ◌⊎◌, inl, inr, ℕ, ◌+◌, ◌-◌, ◌≤◌, ◌<◌, Bool, true, false, if◌then◌else◌, nat_lt, List, [], length, take, drop, get_or, set, replicate, refl, sym, ap, ◌∙◌, subst, arith}
+use Rattle.std.proofs.Common.{◌≡◌, ◌⊎◌, inl, inr, ℕ, ◌+◌, ◌-◌, ◌≤◌, ◌<◌, Bool, true, false, if◌then◌else◌, nat_lt}
+use Rattle.std.proofs.Common.{List, [], length, take, drop, get_or, set, replicate, refl, sym, ap, ◌∙◌, subst, arith}
 use Rattle.std.proofs.lemmas.Bool.Decides.{nat_tests}
 use Rattle.std.proofs.lemmas.List.{length-set, length-take}
 use Rattle.mm_base.specs.Cells.{is_device_byte, is_msr}
@@ -16,7 +17,8 @@ use Rattle.supervisor_calls.proofs.WhereLemmas.{InDevice, device_told}
 use Rattle.image_groups.specs.Erasing.{erase}
 use Rattle.image_groups.specs.Groups.{Group, granted}
 use Rattle.image_groups.specs.RunLaws.{IsWhole}
-use Rattle.image_groups.proofs.MaskLemmas.{get_or-masked, masked-overwritten_other, masked-set_other, masked_twice, overwritten-masked, piece_at_same, set-masked}
+use Rattle.image_groups.proofs.MaskLemmas.{get_or-masked, masked-overwritten_other, masked-set_other, masked_twice, overwritten-masked, piece_at_same}
+use Rattle.image_groups.proofs.MaskLemmas.{set-masked}
 use Rattle.image_groups.proofs.PlaceLemmas.{InMmram}
 
 -- memory isn't the device window
@@ -43,13 +45,15 @@ module _ (group : Group) (site : Site) where
       → bytes_at (erase group site live) at n ≡ bytes_at live at n
   bytes_same live at n some (inl memory) each =
       let told : is_device_byte at ≡ false = memory_told at n memory some in
-      ap (λ (b : Bool). if b then take n (drop (at - 0xfe000000) (erase group site live).platform.device) else take n (drop (at - 0x80000000) (erase group site live).memory)) told
+      ap (λ (b : Bool). if b then take n (drop (at - 0xfe000000) (erase group site live).platform.device)
+      else take n (drop (at - 0x80000000) (erase group site live).memory)) told
       ∙ piece_at_same 0 (λ k. granted group site kinds.Memory (0x80000000 + k)) (at - 0x80000000) n live.memory
       (by_place true kinds.Memory 0x80000000 at n memory.from each)
       ∙ sym (ap (λ (b : Bool). if b then take n (drop (at - 0xfe000000) live.platform.device) else take n (drop (at - 0x80000000) live.memory)) told)
   bytes_same live at n some (inr device) each =
       let told : is_device_byte at ≡ true = device_told at n device some in
-      ap (λ (b : Bool). if b then take n (drop (at - 0xfe000000) (erase group site live).platform.device) else take n (drop (at - 0x80000000) (erase group site live).memory)) told
+      ap (λ (b : Bool). if b then take n (drop (at - 0xfe000000) (erase group site live).platform.device)
+      else take n (drop (at - 0x80000000) (erase group site live).memory)) told
       ∙ piece_at_same 0 (λ k. granted group site kinds.Memory (0xfe000000 + k)) (at - 0xfe000000) n live.platform.device
       (by_place true kinds.Memory 0xfe000000 at n device.from each)
       ∙ sym (ap (λ (b : Bool). if b then take n (drop (at - 0xfe000000) live.platform.device) else take n (drop (at - 0x80000000) live.memory)) told)
@@ -71,7 +75,8 @@ module _ (group : Group) (site : Site) where
       mine = each index (record { from = omega arith; to = omega (arith, some) })
 
       by_test : (low : Bool) → nat_lt index 0x2000 ≡ low
-          → (if low then get_or (erase group site live).platform.msrs index 0 else get_or (erase group site live).platform.upper_msrs (index - 0xc0000000) 0)
+          → (if low then get_or (erase group site live).platform.msrs index 0
+          else get_or (erase group site live).platform.upper_msrs (index - 0xc0000000) 0)
           ≡ (if low then get_or live.platform.msrs index 0 else get_or live.platform.upper_msrs (index - 0xc0000000) 0)
       by_test true is = get_or-masked 0 (λ k. granted group site kinds.Msr k) live.platform.msrs index 0 mine
       by_test false is =
@@ -88,7 +93,9 @@ module _ (group : Group) (site : Site) where
     with_bytes-erased (inl memory) each =
         let told : is_device_byte at ≡ false = memory_told at n memory some in
         let P : Bool → Type 0 = λ b. (if b
-        then record (erase group site live) { platform = record (erase group site live).platform { device = overwritten (erase group site live).platform.device (at - 0xfe000000) piece } }
+        then record (erase group site live) {
+          platform = record (erase group site live).platform { device = overwritten (erase group site live).platform.device (at - 0xfe000000) piece };
+        }
         else record (erase group site live) { memory = overwritten (erase group site live).memory (at - 0x80000000) piece })
         ≡ erase group site (if b
         then record live { platform = record live.platform { device = overwritten live.platform.device (at - 0xfe000000) piece } }
@@ -101,7 +108,9 @@ module _ (group : Group) (site : Site) where
     with_bytes-erased (inr device) each =
         let told : is_device_byte at ≡ true = device_told at n device some in
         let P : Bool → Type 0 = λ b. (if b
-        then record (erase group site live) { platform = record (erase group site live).platform { device = overwritten (erase group site live).platform.device (at - 0xfe000000) piece } }
+        then record (erase group site live) {
+          platform = record (erase group site live).platform { device = overwritten (erase group site live).platform.device (at - 0xfe000000) piece };
+        }
         else record (erase group site live) { memory = overwritten (erase group site live).memory (at - 0x80000000) piece })
         ≡ erase group site (if b
         then record live { platform = record live.platform { device = overwritten live.platform.device (at - 0xfe000000) piece } }
@@ -165,7 +174,9 @@ module _ (group : Group) (site : Site) where
 
   module _ (live : Live) (whole : IsWhole live) (at n : ℕ) (piece : List ℕ) (few : length piece ≤ n) (within : at + n ≤ 65536) where
     pub ports-erased : AreGranted kinds.Io at n
-        → record (erase group site live) { platform = record (erase group site live).platform { ports = overwritten (erase group site live).platform.ports at piece } }
+        → record (erase group site live) {
+          platform = record (erase group site live).platform { ports = overwritten (erase group site live).platform.ports at piece };
+        }
         ≡ erase group site (record live { platform = record live.platform { ports = overwritten live.platform.ports at piece } })
     ports-erased each =
         ap (λ (ports : List ℕ). record (erase group site live) { platform = record (erase group site live).platform { ports = ports } })
@@ -173,7 +184,8 @@ module _ (group : Group) (site : Site) where
         (λ k from to. each k (record { from = from; to = omega (arith, to, few) })))
 
     pub erased-ports : AreSpared kinds.Io at n
-        → erase group site (record live { platform = record live.platform { ports = overwritten live.platform.ports at piece } }) ≡ erase group site live
+        → erase group site (record live { platform = record live.platform { ports = overwritten live.platform.ports at piece } })
+        ≡ erase group site live
     erased-ports each =
         ap (λ (ports : List ℕ). record (erase group site live) { platform = record (erase group site live).platform { ports = ports } })
         (masked-overwritten_other (λ k. granted group site kinds.Io k) live.platform.ports piece at (omega (arith, whole.cells.ports, within, few))
@@ -208,7 +220,9 @@ module _ (group : Group) (site : Site) where
             → record (erase group site live) {
               platform = if low
                   then record (erase group site live).platform { msrs = set (erase group site live).platform.msrs index value }
-                  else record (erase group site live).platform { upper_msrs = set (erase group site live).platform.upper_msrs (index - 0xc0000000) value };
+                  else record (erase group site live).platform {
+                    upper_msrs = set (erase group site live).platform.upper_msrs (index - 0xc0000000) value;
+                  };
             }
             ≡ erase group site (record live {
               platform = if low
@@ -220,7 +234,8 @@ module _ (group : Group) (site : Site) where
             (set-masked 0 (λ k. granted group site kinds.Msr k) live.platform.msrs index value mine)
         by_test false is =
             ap (λ (msrs : List ℕ). record (erase group site live) { platform = record (erase group site live).platform { upper_msrs = msrs } })
-            (set-masked 0 (λ k. granted group site kinds.Msr (0xc0000000 + k)) live.platform.upper_msrs (index - 0xc0000000) value (same_upper is ∙ mine))
+            (set-masked 0 (λ k. granted group site kinds.Msr (0xc0000000 + k)) live.platform.upper_msrs (index - 0xc0000000) value
+            (same_upper is ∙ mine))
 
     pub erased-register : AreSpared kinds.Msr index n
         → erase group site (record live { platform = with_register index value live.platform }) ≡ erase group site live
@@ -241,7 +256,8 @@ module _ (group : Group) (site : Site) where
             (masked-set_other 0 (λ k. granted group site kinds.Msr k) live.platform.msrs index value other)
         by_test false is =
             ap (λ (msrs : List ℕ). record (erase group site live) { platform = record (erase group site live).platform { upper_msrs = msrs } })
-            (masked-set_other 0 (λ k. granted group site kinds.Msr (0xc0000000 + k)) live.platform.upper_msrs (index - 0xc0000000) value (same_upper is ∙ other))
+            (masked-set_other 0 (λ k. granted group site kinds.Msr (0xc0000000 + k)) live.platform.upper_msrs (index - 0xc0000000) value
+            (same_upper is ∙ other))
 
     pub register-whole : IsWhole live → IsWhole (record live { platform = with_register index value live.platform })
     register-whole whole = by_test (nat_lt index 0x2000)

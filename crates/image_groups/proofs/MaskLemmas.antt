@@ -1,5 +1,6 @@
 -- Laws of lists in which a blank stands at each place that doesn't pass a test.
-use Rattle.std.proofs.Common.{◌≡◌, ℕ, zero, suc, ◌+◌, ◌≤◌, ◌<◌, Bool, true, false, if◌then◌else◌, List, [], ◌∷◌, ◌++◌, length, take, drop, get_or, set, replicate, refl, sym, ap, ◌∙◌, append_assoc, arith}
+use Rattle.std.proofs.Common.{◌≡◌, ℕ, zero, suc, ◌+◌, ◌≤◌, ◌<◌, Bool, true, false, if◌then◌else◌, List, [], ◌∷◌, ◌++◌, length, take, drop, get_or}
+use Rattle.std.proofs.Common.{set, replicate, refl, sym, ap, ◌∙◌, append_assoc, arith}
 use Rattle.std.proofs.lemmas.Bool.{cond-true, cond-false}
 use Rattle.std.proofs.lemmas.List.{drop-drop, length-append, length-drop, length-take-le, take-append-drop}
 use Rattle.mm_base.specs.Numbers.{overwritten}
@@ -15,7 +16,8 @@ module _ {A : Type 0} (blank : A) where
   masked_same test other [] each = refl
   masked_same test other (item ∷ items) each =
       ap (λ (b : Bool). (if b then item else blank) ∷ masked blank (λ k. test (suc k)) items) (each 0)
-      ∙ ap (λ (rest : List A). (if other 0 then item else blank) ∷ rest) (masked_same (λ k. test (suc k)) (λ k. other (suc k)) items (λ k. each (suc k)))
+      ∙ ap (λ (rest : List A). (if other 0 then item else blank) ∷ rest)
+      (masked_same (λ k. test (suc k)) (λ k. other (suc k)) items (λ k. each (suc k)))
 
   pub length-masked : (test : ℕ → Bool) (items : List A) → length (masked blank test items) ≡ length items
   length-masked test [] = refl
@@ -32,7 +34,8 @@ module _ {A : Type 0} (blank : A) where
   drop-masked test zero items = masked_same test (λ k. test (0 + k)) items (λ k. ap test (omega arith))
   drop-masked test (suc n) [] = refl
   drop-masked test (suc n) (item ∷ items) =
-      drop-masked (λ k. test (suc k)) n items ∙ masked_same (λ k. test (suc (n + k))) (λ k. test (suc n + k)) (drop n items) (λ k. ap test (omega arith))
+      drop-masked (λ k. test (suc k)) n items
+      ∙ masked_same (λ k. test (suc (n + k))) (λ k. test (suc n + k)) (drop n items) (λ k. ap test (omega arith))
 
   pub masked-append : (test : ℕ → Bool) (items more : List A)
       → masked blank test (items ++ more) ≡ masked blank test items ++ masked blank (λ k. test (length items + k)) more
@@ -70,7 +73,8 @@ module _ {A : Type 0} (blank : A) where
 
   -- ---- one item
 
-  pub get_or-masked : (test : ℕ → Bool) (items : List A) (k : ℕ) (other : A) → test k ≡ true → get_or (masked blank test items) k other ≡ get_or items k other
+  pub get_or-masked : (test : ℕ → Bool) (items : List A) (k : ℕ) (other : A) → test k ≡ true
+      → get_or (masked blank test items) k other ≡ get_or items k other
   get_or-masked test [] k other is = refl
   get_or-masked test (item ∷ items) zero other is = cond-true (test 0) item blank is
   get_or-masked test (item ∷ items) (suc k) other is = get_or-masked (λ k. test (suc k)) items k other is
@@ -87,7 +91,8 @@ module _ {A : Type 0} (blank : A) where
       → masked blank test (set items k value) ≡ masked blank test items
   masked-set_other test [] k value is = refl
   masked-set_other test (item ∷ items) zero value is =
-      ap (λ (first : A). first ∷ masked blank (λ k. test (suc k)) items) (cond-false (test 0) value blank is ∙ sym (cond-false (test 0) item blank is))
+      ap (λ (first : A). first ∷ masked blank (λ k. test (suc k)) items)
+      (cond-false (test 0) value blank is ∙ sym (cond-false (test 0) item blank is))
   masked-set_other test (item ∷ items) (suc k) value is =
       ap (λ (rest : List A). (if test 0 then item else blank) ∷ rest) (masked-set_other (λ k. test (suc k)) items k value is)
 
@@ -117,7 +122,8 @@ module _ (test : ℕ → Bool) (bytes piece : List ℕ) (at : ℕ) where
       let front : List ℕ = take at bytes in
       let rest : List ℕ = drop (at + length piece) bytes in
       let both : length (front ++ piece) ≡ at + length piece = omega (arith, long, length-append front piece) in
-      let first : masked 0 test ((front ++ piece) ++ rest) ≡ masked 0 test (front ++ piece) ++ masked 0 (λ k. test (length (front ++ piece) + k)) rest =
+      let first : masked 0 test ((front ++ piece) ++ rest)
+      ≡ masked 0 test (front ++ piece) ++ masked 0 (λ k. test (length (front ++ piece) + k)) rest =
       masked-append 0 test (front ++ piece) rest in
       let second : masked 0 test (front ++ piece) ≡ take at (masked 0 test bytes) ++ masked 0 (λ k. test (at + k)) piece =
       masked-append 0 test front piece

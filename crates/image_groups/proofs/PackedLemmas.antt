@@ -39,14 +39,19 @@ module _ (site : Site) (registry : RegistryState) (protocols : DbState) (pages :
   module _ (effects : KeepsEffects) where
     parts : KeepsParts IsAtWork
     parts = record {
-      denial = λ denial d p. subst (λ x. IsAtWork (with_denied denial x)) (sym p.1.0) (by_room denial p.0 p.1.1 (nat_lt (length p.0.records.denials) 8));
+      denial = λ denial d p.
+          subst (λ x. IsAtWork (with_denied denial x)) (sym p.1.0) (by_room denial p.0 p.1.1 (nat_lt (length p.0.records.denials) 8));
       write = λ kind at n value d pass p. subst (λ x. IsAtWork (after_write kind at n value x)) (sym p.1.0) (
         record { live = with_number kind at n value p.0.live; saved = p.0.saved; records = with_cell_write kind at n value p.0.records },
         (refl, effects.write p.0 kind at n value (unlimited p.0 kind at n (ap (λ x. passes (write_verdict x kind at n)) (sym p.1.0) ∙ pass)) p.1.1),
       );
       clearing = λ at n d pass p. subst (λ x. IsAtWork (after_clearing at n x)) (sym p.1.0) (
         record p.0 { live = with_bytes at (zeros n) p.0.live },
-        (refl, effects.clearing p.0 at n (unlimited p.0 kinds.Memory at n (ap (λ x. passes (write_verdict x kinds.Memory at n)) (sym p.1.0) ∙ pass)) p.1.1),
+        (
+          refl,
+          effects.clearing p.0 at n
+              (unlimited p.0 kinds.Memory at n (ap (λ x. passes (write_verdict x kinds.Memory at n)) (sym p.1.0) ∙ pass)) p.1.1,
+        ),
       );
       pool = λ pool d p. subst (λ x. IsAtWork (with_pool pool x)) (sym p.1.0)
           (record p.0 { live = record p.0.live { pools = set p.0.live.pools image pool } }, (refl, effects.pool pool p.0.live p.1.1));

@@ -1,5 +1,6 @@
 -- Where an access lies that passes: of each kind in its cells, of bytes in memory or in the device window. It has some unit.
-use Rattle.std.proofs.Common.{◌≡◌, ◌≢◌, ◌⊎◌, inl, inr, ℕ, zero, suc, ◌+◌, ◌≤◌, ◌^◌, Bool, true, false, ◌&&◌, if◌then◌else◌, nat_lt, List, [], ◌∷◌, refl, sym, ap, ◌∙◌, arith}
+use Rattle.std.proofs.Common.{◌≡◌, ◌≢◌, ◌⊎◌, inl, inr, ℕ, zero, suc, ◌+◌, ◌≤◌, ◌^◌, Bool, true, false, ◌&&◌, if◌then◌else◌, nat_lt, List}
+use Rattle.std.proofs.Common.{[], ◌∷◌, refl, sym, ap, ◌∙◌, arith}
 use Rattle.std.proofs.lemmas.Bool.Decides.{nat_tests}
 use Rattle.image_table.specs.ImageTable.{name_at}
 use Rattle.mm_base.specs.Cells.{is_msr}
@@ -34,7 +35,8 @@ no_rule_about : (rules : List Rule) (k : ℕ) (name : _) (kind : Kind) (at : ℕ
     → passes (verdict_by_rules rules k name kind (units_from at 0) right) ≡ false
 no_rule_about [] k name kind at right = refl
 no_rule_about (rule ∷ rules) k name kind at right =
-    ap (λ (b : Bool). passes (if b then (if is_allowed_by (units_from at 0) right rule then Pass (whys.Rule k) else Deny (whys.Rule k)) else verdict_by_rules rules (suc k) name kind (units_from at 0) right))
+    ap (λ (b : Bool). passes (if b then (if is_allowed_by (units_from at 0) right rule then Pass (whys.Rule k) else Deny (whys.Rule k))
+    else verdict_by_rules rules (suc k) name kind (units_from at 0) right))
     about
     ∙ no_rule_about rules (suc k) name kind at right
   where
@@ -79,7 +81,9 @@ module _ (site : Site) (image : ℕ) (right : Right) (trapped : ℕ) where
   unfolding decided verdict_on
   not_none kind at n none pass = by_case (by_place _ _ _ pass)
     where
-      by_case : {P Q : Type 0} → ((place_of kind (units_from at n) ≡ Mmram) × P) ⊎ (Q × (passes (verdict_by_rules site.policy.rules 0 (name_at site.images image) kind (units_from at n) right) ≡ true)) → ⊥
+      by_case : {P Q : Type 0}
+          → ((place_of kind (units_from at n) ≡ Mmram) × P)
+          ⊎ (Q × (passes (verdict_by_rules site.policy.rules 0 (name_at site.images image) kind (units_from at n) right) ≡ true)) → ⊥
       by_case (inl home) = no_cells kind at n none home.0
       by_case (inr cells) =
           let no : passes (verdict_by_rules site.policy.rules 0 (name_at site.images image) kind (units_from at n) right) ≡ false =
@@ -98,7 +102,8 @@ module _ (site : Site) (image : ℕ) (right : Right) (trapped : ℕ) where
   on_cells true home ruled pass = refl
   on_cells false home ruled pass = absurd cc
 
-  pub cells_there : (kind : Kind) (at n : ℕ) → kind ≢ Memory → passes (decided site image kind at n right trapped) ≡ true → have_cells kind at n ≡ true
+  pub cells_there : (kind : Kind) (at n : ℕ) → kind ≢ Memory → passes (decided site image kind at n right trapped) ≡ true
+      → have_cells kind at n ≡ true
   unfolding decided verdict_on
   cells_there Memory at n other pass = absurd (other refl)
   cells_there Io at n other pass = on_cells (have_cells Io at n) _ _ pass

@@ -16,5 +16,5 @@ pub record IsBoot (bytes : List ℕ) (files : List File) (cells : List CellWrite
   pub outcome : BootOutcome
   pub is : IsBootOf bytes files cells outcome
   pub booted : AreBooted outcome.tables
-  pub cells : IsPlatform outcome.tables.live.platform
+  pub all_cells : IsPlatform outcome.tables.live.platform
   pub leaves : boot ≡ boot_of outcome

@@ -1,5 +1,5 @@
 -- The laws of chains and of the root pass, of whole cores.
-use Rattle.std.proofs.Common.{◌≡◌, ap, subst}
+use Rattle.std.proofs.Common.{◌≡◌, false, true, None, Some, ap, subst}
 use Rattle.image_groups.proofs.FactLemmas.{closed_groups_have_facts}
 use Rattle.image_groups.specs.Erasing.{erase, projected_registers}
 use Rattle.image_groups.specs.Groups.{Group}
@@ -9,7 +9,8 @@ use Rattle.mm_core.specs.Message.{no_message}
 use Rattle.mmi_registry.specs.Handlers.{chain_of}
 use Rattle.supervisor_calls.specs.Tables.{Live}
 use Rattle.mm_groups.specs.ChainLaws.{ChainsGoAlong, ChainsOutsideLeaveNothing, RootPassSharesAlike, RootPassesAgree, root_pass_from}
-use Rattle.mm_groups.specs.EntryLaws.{IsClosedIn, IsSound}
+use Rattle.mm_groups.specs.Closed.{IsClosedIn}
+use Rattle.mm_groups.specs.EntryLaws.{IsSound}
 use Rattle.mm_groups.proofs.ChainLemmas.{chain_same, found, none_own, others_left, roots_alike}
 use Rattle.mm_groups.proofs.CoreLemmas.{core_at}
 use Rattle.mm_groups.proofs.EntryLemmas.{chain_founds, owners}

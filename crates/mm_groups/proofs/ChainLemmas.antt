@@ -1,21 +1,21 @@
 -- Chains of handlers of a closed group and of others, and the root pass, whose handlers are mixed.
-use Rattle.std.proofs.Common.{◌≡◌, ◌⊎◌, ℕ, zero, suc, ◌<◌, Bool, true, false, cond, if◌then◌else◌, ◌==◌, List, [], ◌∷◌, length, map, filter, find, Option, Some, None, refl, sym, ap, ◌∙◌, subst, arith}
+use Rattle.std.proofs.Common.{◌≡◌, ℕ, zero, suc, ◌<◌, Bool, true, false, cond, if◌then◌else◌, ◌==◌, List, [], ◌∷◌, map, find}
+use Rattle.std.proofs.Common.{Option, Some, refl, sym, ap, ◌∙◌, arith}
 use Rattle.std.specs.List.{All, AllPairs, slice_index_or}
 use Rattle.std.specs.Option.{option_map_or}
 use Rattle.std.proofs.lemmas.Bool.Decides.{nat_tests}
 use Rattle.std.proofs.lemmas.List.Elements.{All-head, All-tail}
-use Rattle.image_groups.specs.Erasing.{erase, projected_registers}
+use Rattle.image_groups.specs.Erasing.{projected_registers}
 use Rattle.image_groups.specs.Groups.{Group, is_handler_of}
 use Rattle.image_groups.specs.Laws.{Facts}
 use Rattle.mm_base.specs.declared.cells.Saved.{Saved}
 use Rattle.mm_base.specs.declared.handler.Handler.{Handler}
 use Rattle.mm_base.specs.declared.invocation.Invocation.{Invocation}
 use Rattle.mm_core.specs.CoreState.{Site}
-use Rattle.mm_core.specs.HandlerChain.{invocations_of, live_after, message_after, result_of, runs_of, statuses_of, through_stop}
+use Rattle.mm_core.specs.HandlerChain.{invocations_of, live_after, message_after, runs_of, statuses_of, through_stop}
 use Rattle.mm_core.specs.Invoked.{invoked}
 use Rattle.mm_core.specs.Message.{Invoked, Message, no_message, status_of}
-use Rattle.mmi_registry.specs.ChainLaws.{best_of}
-use Rattle.mmi_registry.specs.ChainRule.{is_final, stops}
+use Rattle.mmi_registry.specs.ChainRule.{stops}
 use Rattle.mmi_registry.specs.Handlers.{handler_at}
 use Rattle.supervisor_calls.specs.Laws.{IsSite}
 use Rattle.supervisor_calls.specs.Tables.{Live}
@@ -35,7 +35,8 @@ other_number a b less = grind (arith, nat_tests)
 pub found : (handlers : List Handler) → AllPairs (λ earlier later. earlier.number < later.number) handlers
     → All (λ handler. handler_at handler.number handlers ≡ Some handler) handlers
 found [] rising k d less = absurd (omega (arith, less))
-found (first ∷ handlers) rising zero d less = ap (λ (b : Bool). cond b (Some first) (find (λ h. h.number == first.number) handlers)) (same_number first.number)
+found (first ∷ handlers) rising zero d less =
+    ap (λ (b : Bool). cond b (Some first) (find (λ h. h.number == first.number) handlers)) (same_number first.number)
 found (first ∷ handlers) rising (suc k) d less =
     let other : Handler = slice_index_or handlers k d in
     let below : first.number < other.number = rising 0 (suc k) d (omega arith) less in
@@ -142,7 +143,8 @@ module _ (group : Group) (site : Site) (placed : IsSite site.supervised) (facts 
       by_stop true rest first = first
       by_stop false rest first = rest ∙ first
 
-  pub none_own : (root : Bool) (saved : Saved) (handlers : List Handler) (message : Message) (live : Live) → Ready live → AreOthers handlers → AreFound handlers
+  pub none_own : (root : Bool) (saved : Saved) (handlers : List Handler) (message : Message) (live : Live) → Ready live → AreOthers handlers
+      → AreFound handlers
       → own_invocations group site (invocations_of (through_stop root (runs_of root site saved handlers message live))) ≡ []
   none_own root saved [] message live ready others founds = refl
   none_own root saved (handler ∷ handlers) message live ready others founds =
@@ -166,7 +168,8 @@ module _ (group : Group) (site : Site) (placed : IsSite site.supervised) (facts 
 
       by_stop : (b : Bool)
           → own_invocations group site (invocations_of (through_stop root (runs_of root site saved handlers run.message run.live))) ≡ []
-          → own_invocations group site (invocations_of (if b then [] else through_stop root (runs_of root site saved handlers run.message run.live))) ≡ []
+          → own_invocations group site (invocations_of (if b then [] else through_stop root (runs_of root site saved handlers run.message run.live)))
+          ≡ []
       by_stop true none = refl
       by_stop false none = none
 
@@ -236,12 +239,15 @@ module _ (group : Group) (site : Site) (placed : IsSite site.supervised) (facts 
             rest (handler_left group site placed facts saved handler no_message live ready others ∙ same
             ∙ sym (handler_left group site placed facts asked handler no_message other prepared others)) in
             let here = named handler run.invocation (handler_named group site placed facts saved handler no_message live ready) found_is ∙ others in
-            let there = named handler sister.invocation (handler_named group site placed facts asked handler no_message other prepared) found_is ∙ others in
+            let there = named handler sister.invocation (handler_named group site placed facts asked handler no_message other prepared) found_is
+            ∙ others in
             record {
               own =
-                  ap (λ (b : Bool). cond b (run.invocation ∷ own_invocations group site (invocations_of first)) (own_invocations group site (invocations_of first))) here
+                  ap (λ (b : Bool). cond b (run.invocation ∷ own_invocations group site (invocations_of first))
+                  (own_invocations group site (invocations_of first))) here
                   ∙ later.own
-                  ∙ sym (ap (λ (b : Bool). cond b (sister.invocation ∷ own_invocations group site (invocations_of second)) (own_invocations group site (invocations_of second))) there);
+                  ∙ sym (ap (λ (b : Bool). cond b (sister.invocation ∷ own_invocations group site (invocations_of second))
+                  (own_invocations group site (invocations_of second))) there);
               states = later.states;
             }
 
@@ -256,9 +262,11 @@ module _ (group : Group) (site : Site) (placed : IsSite site.supervised) (facts 
     roots_alike [] message given live other ready prepared same founds = record { own = refl; states = same }
     roots_alike (handler ∷ handlers) message given live other ready prepared same founds =
         step_alike handler live other ready prepared same (All-head (λ h. handler_at h.number site.handlers ≡ Some h) handler handlers founds)
-        (runs_of true site saved handlers (run handler live other ready prepared same (All-head (λ h. handler_at h.number site.handlers ≡ Some h) handler handlers founds)).message
+        (runs_of true site saved handlers
+        (run handler live other ready prepared same (All-head (λ h. handler_at h.number site.handlers ≡ Some h) handler handlers founds)).message
         (run handler live other ready prepared same (All-head (λ h. handler_at h.number site.handlers ≡ Some h) handler handlers founds)).live)
-        (runs_of true site asked handlers (sister handler live other ready prepared same (All-head (λ h. handler_at h.number site.handlers ≡ Some h) handler handlers founds)).message
+        (runs_of true site asked handlers
+        (sister handler live other ready prepared same (All-head (λ h. handler_at h.number site.handlers ≡ Some h) handler handlers founds)).message
         (sister handler live other ready prepared same (All-head (λ h. handler_at h.number site.handlers ≡ Some h) handler handlers founds)).live)
         (λ is. roots_alike handlers _ _ _ _ (handler_ready group site placed facts saved handler no_message live ready)
         (handler_ready group site placed facts asked handler no_message other prepared) is

@@ -1,13 +1,10 @@
 -- The laws of one entry, of whole cores.
 use Rattle.std.proofs.Common.{◌≡◌, inr, ℕ, Bool, false, ◌&&◌, List, [], ◌∷◌, length, Some, refl, sym, ap, ◌∙◌, subst}
-use Rattle.std.specs.List.{list_any, range_with_len, slice_get, slice_index_or}
+use Rattle.std.specs.List.{list_any, range_with_len, slice_index_or}
 use Rattle.image_groups.proofs.FactLemmas.{closed_groups_have_facts}
 use Rattle.image_groups.specs.Erasing.{erase}
 use Rattle.image_groups.specs.Groups.{Group, granted, is_body_of}
 use Rattle.image_groups.specs.Reach.{is_touched}
-use Rattle.image_groups.specs.Laws.{Facts}
-use Rattle.image_groups.specs.RunLaws.{IsWhole}
-use Rattle.image_table.specs.declared.placed_image.PlacedImage.{PlacedImage}
 use Rattle.mm_base.specs.declared.entry.Outcome.{Outcome}
 use Rattle.mm_base.specs.declared.entry.Request.{Request}
 use Rattle.mm_base.specs.declared.handler.HandlerBody.{HandlerBody}
@@ -43,7 +40,8 @@ alike_here group site live other request asked sound whole closed same is =
     let founds = found site.handlers sound.numbered.rising in
     record {
       share = share_alike group site sound.placed facts closed.alike founds request asked live other sound.whole whole.whole same is;
-      cores = ap (core_at site) (states_alike group site sound.placed facts closed.alike founds request asked live other sound.whole whole.whole same is);
+      cores =
+          ap (core_at site) (states_alike group site sound.placed facts closed.alike founds request asked live other sound.whole whole.whole same is);
     }
 
 alike_there : (group : Group) (site place : Site) → site ≡ place → (live other : Live) (request asked : Request)
@@ -83,7 +81,8 @@ nobody_closed : (site : Site) → IsClosedIn nobody site
 unfolding granted
 nobody_closed site = record {
   alike = λ guid. inr (λ k d less. not_of_nobody (slice_index_or (chain_of (Some guid) site.handlers) k d).body);
-  apart = λ image kind unit there cell outside passes. nothing_granted (range_with_len 0 (length site.supervised.images)) (λ image. is_touched site.supervised image kind unit);
+  apart = λ image kind unit there cell outside passes.
+      nothing_granted (range_with_len 0 (length site.supervised.images)) (λ image. is_touched site.supervised image kind unit);
 }
 
 pub steps_stay_sound : StepsStaySound
@@ -93,7 +92,9 @@ steps_stay_sound core request sound =
     record {
       placed = sound.placed;
       numbered = sound.numbered;
-      whole = step_ready nobody core.site sound.placed facts (nobody_closed core.site).alike (found core.site.handlers sound.numbered.rising) request core.live sound.whole;
+      whole =
+          step_ready nobody core.site sound.placed facts (nobody_closed core.site).alike
+          (found core.site.handlers sound.numbered.rising) request core.live sound.whole;
     }
 
 -- ---- two cores that stepped

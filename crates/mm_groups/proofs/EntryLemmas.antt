@@ -1,26 +1,25 @@
 -- One entry for a closed group: from two states that agree after erasing, with two requests that agree after projecting, it gets one share.
-use Rattle.std.proofs.Common.{◌≡◌, ◌⊎◌, inl, inr, ℕ, zero, suc, ◌<◌, ◌≤◌, Bool, true, false, cond, find, if◌then◌else◌, ◌==◌, ◌&&◌, not, nat_le, List, [], ◌∷◌, ◌++◌, length, map, filter, min, take, Option, Some, None, refl, sym, ap, ◌∙◌, subst, arith}
-use Rattle.std.specs.List.{All, list_all, slice_get}
+use Rattle.std.proofs.Common.{◌≡◌, inl, inr, ℕ, zero, suc, ◌≤◌, Bool, true, false, cond, find, if◌then◌else◌, ◌==◌, ◌&&◌, not, List}
+use Rattle.std.proofs.Common.{[], ◌∷◌, ◌++◌, map, min, take, Option, Some, None, refl, sym, ap, ◌∙◌, arith}
+use Rattle.std.specs.List.{All, list_all}
 use Rattle.std.proofs.lemmas.Bool.Decides.{nat_tests}
 use Rattle.std.proofs.lemmas.List.Elements.{All-filter}
 use Rattle.std.specs.Option.{option_eq, unwrap_or}
 use Rattle.image_groups.specs.Erasing.{projected_registers}
-use Rattle.image_groups.specs.Groups.{AreAlike, Group, IsClosed, is_handler_of}
+use Rattle.image_groups.specs.Groups.{AreAlike, Group, is_handler_of}
 use Rattle.image_groups.specs.Laws.{Facts}
 use Rattle.mm_base.specs.Guid.{same_guid}
-use Rattle.mm_base.specs.Statuses.{invalid_parameter, not_found, success}
+use Rattle.mm_base.specs.Statuses.{not_found, success}
 use Rattle.mm_base.specs.declared.cells.Saved.{Saved}
-use Rattle.mm_base.specs.declared.entry.Outcome.{Outcome}
 use Rattle.mm_base.specs.declared.entry.Request.{Request}
 use Rattle.mm_base.specs.declared.entry.Shape.{Shape}
 use Rattle.mm_base.specs.declared.entry.Shape.TheVariants.{BadLength, BadHeader, NoHandler, Dispatched}
 use Rattle.mm_base.specs.declared.guid.Guid.{Guid}
 use Rattle.mm_base.specs.declared.handler.Handler.{Handler}
-use Rattle.mm_base.specs.declared.invocation.Invocation.{Invocation}
 use Rattle.mm_core.specs.CommunicateHeader.{header_bytes, header_of, is_lawful}
 use Rattle.mm_core.specs.CoreState.{Site}
-use Rattle.mm_core.specs.EntryStep.{chain_runs, entry_step, has_none, message_of, outcome_of, reply_as, root_runs, shape_of, status_as}
-use Rattle.mm_core.specs.HandlerChain.{invocations_of, live_after, message_after, result_of, runs_of, statuses_of, through_stop}
+use Rattle.mm_core.specs.EntryStep.{chain_runs, entry_step, has_none, message_of, reply_as, root_runs, shape_of, status_as}
+use Rattle.mm_core.specs.HandlerChain.{invocations_of, live_after}
 use Rattle.mm_core.specs.Message.{Invoked, Message, no_message}
 use Rattle.mmi_registry.specs.ChainLaws.{best_of}
 use Rattle.mmi_registry.specs.ChainRule.{is_final}
@@ -28,8 +27,9 @@ use Rattle.mmi_registry.specs.Handlers.{chain_of, handler_at}
 use Rattle.supervisor_calls.specs.Laws.{IsSite}
 use Rattle.supervisor_calls.specs.Tables.{Live}
 use Rattle.mm_groups.specs.ChainLaws.{erased_run}
-use Rattle.mm_groups.specs.Share.{Answer, Share, is_addressed, is_served_by, own_invocations, projected, share_of}
-use Rattle.mm_groups.proofs.ChainLemmas.{AreFound, AreOthers, AreOwn, RootsAlike, chain_ready, chain_same, invocations_same, live_same, message_same, none_own, others_left, roots_alike, runs_ready, statuses_same}
+use Rattle.mm_groups.specs.Share.{Answer, is_addressed, is_served_by, own_invocations, projected, share_of}
+use Rattle.mm_groups.proofs.ChainLemmas.{AreFound, AreOthers, AreOwn, RootsAlike, chain_ready, chain_same, invocations_same, live_same, message_same}
+use Rattle.mm_groups.proofs.ChainLemmas.{none_own, others_left, roots_alike, runs_ready, statuses_same}
 use Rattle.mm_groups.proofs.HandlerRunLemmas.{IsReady, erased}
 
 -- ---- all of some handlers
@@ -69,7 +69,8 @@ module _ (group : Group) (site : Site) (placed : IsSite site.supervised) (facts 
 
   -- the handlers of a GUID are all the group's, or none is
   pub owners : (guid : Guid) (b : Bool) → is_served_by group site guid ≡ b
-      → cond b (AreOwn group site placed facts (chain_of (Some guid) site.handlers)) (AreOthers group site placed facts (chain_of (Some guid) site.handlers))
+      → cond b (AreOwn group site placed facts (chain_of (Some guid) site.handlers))
+      (AreOthers group site placed facts (chain_of (Some guid) site.handlers))
   owners guid true is = own_from (is_handler_of group) (chain_of (Some guid) site.handlers) is
   owners guid false is = by_case (alike guid)
     where
@@ -94,8 +95,10 @@ module _ (group : Group) (site : Site) (placed : IsSite site.supervised) (facts 
   chain_none request live BadHeader ready no_one = (refl, refl)
   chain_none request live (NoHandler guid) ready no_one = (refl, refl)
   chain_none request live (Dispatched guid) ready no_one = (
-    none_own group site placed facts false request.saved (chain_of (Some guid) site.handlers) (message_of request) live ready (owners guid false no_one) (chain_founds (Some guid)),
-    others_left group site placed facts false request.saved (chain_of (Some guid) site.handlers) (message_of request) live ready (owners guid false no_one),
+    none_own group site placed facts false request.saved (chain_of (Some guid) site.handlers) (message_of request) live ready
+        (owners guid false no_one) (chain_founds (Some guid)),
+    others_left group site placed facts false request.saved (chain_of (Some guid) site.handlers) (message_of request) live ready
+        (owners guid false no_one),
   )
 
   chain_stays_ready : (request : Request) (live : Live) (shape : Shape) → Ready live → Ready (live_after live (chain_runs site request live shape))
@@ -132,7 +135,8 @@ module _ (group : Group) (site : Site) (placed : IsSite site.supervised) (facts 
   reply_same request BadHeader runs = refl
   reply_same request (NoHandler guid) runs = refl
   reply_same request (Dispatched guid) runs =
-      ap (λ (m : Message). header_bytes request ++ take (min m.size (header_of request).size) m.buffer) (message_same group site placed facts (message_of request) runs)
+      ap (λ (m : Message). header_bytes request ++ take (min m.size (header_of request).size) m.buffer)
+      (message_same group site placed facts (message_of request) runs)
 
   -- a request that is addressed to a group has at least a header
   addressed_long : (request : Request) → is_addressed group site (shape_of site request) ≡ true → 24 ≤ request.length
@@ -163,7 +167,8 @@ module _ (group : Group) (site : Site) (placed : IsSite site.supervised) (facts 
     pub registers : seen request.saved ≡ seen asked.saved
 
   module _ (request asked : Request) (live other : Live) (ready : Ready live) (prepared : Ready other) (same : left live ≡ left other) where
-    both_told : is_addressed group site (shape_of site request) ≡ true → is_addressed group site (shape_of site asked) ≡ true → told request ≡ told asked
+    both_told : is_addressed group site (shape_of site request) ≡ true → is_addressed group site (shape_of site asked) ≡ true
+        → told request ≡ told asked
         → SharesAlike request asked live other
     unfolding answer_of
     both_told first second is =
@@ -174,8 +179,13 @@ module _ (group : Group) (site : Site) (placed : IsSite site.supervised) (facts 
         let answer : (r : Request) (runs : List Invoked) → Option Answer = λ r runs. answer_of r runs in
         record {
           answer = answer_told request (chain request live) ∙ (λ i. answer_of (is i) (runs i)) ∙ sym (answer_told asked (chain asked other));
-          own = ap (own_invocations group site) (sym (invocations_same group site placed facts (chain request live)) ∙ ap invocations_of runs ∙ invocations_same group site placed facts (chain asked other));
-          states = sym (live_same group site placed facts live (chain request live)) ∙ (λ i. live_after (same i) (runs i)) ∙ live_same group site placed facts other (chain asked other);
+          own =
+              ap (own_invocations group site)
+              (sym (invocations_same group site placed facts (chain request live)) ∙ ap invocations_of runs
+              ∙ invocations_same group site placed facts (chain asked other));
+          states =
+              sym (live_same group site placed facts live (chain request live)) ∙ (λ i. live_after (same i) (runs i))
+              ∙ live_same group site placed facts other (chain asked other);
           registers = ap (λ (r : Request). r.saved) is;
         }
       where
@@ -203,7 +213,8 @@ module _ (group : Group) (site : Site) (placed : IsSite site.supervised) (facts 
       where
         none : (r : Request) (runs : List Invoked) → is_addressed group site (shape_of site r) ≡ false → answer_of r runs ≡ None
         none r runs is =
-            ap (λ (b : Bool). if b then Some (record { shape = shape_of site r; status = status_as runs (shape_of site r); reply = reply_as r runs (shape_of site r) }) else None) is
+            ap (λ (b : Bool). if b then Some
+            (record { shape = shape_of site r; status = status_as runs (shape_of site r); reply = reply_as r runs (shape_of site r) }) else None) is
 
     abbrev left_of : Bool → Request → Request
     left_of b r = if b then told r else record { lane = 0; length = 0; bytes = []; saved = seen r.saved }
@@ -224,7 +235,8 @@ module _ (group : Group) (site : Site) (placed : IsSite site.supervised) (facts 
         by_address (is_addressed group site (shape_of site request)) (is_addressed group site (shape_of site asked)) refl refl is
 
     roots : (alike : SharesAlike request asked live other)
-        → RootsAlike group site placed facts (root_runs site request (live_after live (chain request live))) (root_runs site asked (live_after other (chain asked other)))
+        → RootsAlike group site placed facts (root_runs site request (live_after live (chain request live)))
+        (root_runs site asked (live_after other (chain asked other)))
         (live_after live (chain request live)) (live_after other (chain asked other))
     roots alike =
         roots_alike group site placed facts request.saved asked.saved alike.registers (chain_of None site.handlers) no_message no_message

@@ -1,14 +1,14 @@
 -- What one handler leaves, where it is code of a closed group, and where it isn't.
-use Rattle.std.proofs.Common.{◌≡◌, ◌≢◌, ◌⊎◌, ℕ, ◌+◌, ◌*◌, ◌-◌, ◌≤◌, ◌<◌, Bool, true, false, ◌||◌, List, [], ◌∷◌, length, Option, Some, None, refl, sym, ap, ◌∙◌, subst, arith}
+use Rattle.std.proofs.Common.{◌≡◌, ℕ, ◌+◌, ◌≤◌, ◌<◌, Bool, true, false, ◌||◌, List, [], ◌∷◌, length, Option, Some, None, refl}
+use Rattle.std.proofs.Common.{sym, ap, ◌∙◌, subst, arith}
 use Rattle.std.specs.List.{slice_get}
 use Rattle.std.proofs.lemmas.Bool.Decides.{nat_tests}
 use Rattle.std.proofs.lemmas.Option.{slice_get_within}
 use Rattle.domain_runs.proofs.RunLemmas.{run_keeps}
 use Rattle.domain_runs.specs.Runs.{ending}
 use Rattle.ebc_machine.specs.Invocation.{entered}
-use Rattle.image_groups.proofs.DomainLemmas.{Work, erased_work, packed}
-use Rattle.image_groups.proofs.GroupRunLemmas.{Leaves, run_inside, run_outside, stays_whole}
-use Rattle.image_groups.proofs.LiveLemmas.{AreGranted, AreSpared}
+use Rattle.image_groups.proofs.DomainLemmas.{Work, packed}
+use Rattle.image_groups.proofs.GroupRunLemmas.{run_inside, run_outside, stays_whole}
 use Rattle.image_groups.proofs.PackedLemmas.{IsAtWork}
 use Rattle.image_groups.specs.Erasing.{erase, erased_domain, masked, projected_registers}
 use Rattle.image_groups.specs.Groups.{Group, granted, is_body_of, is_handler_of}
@@ -19,10 +19,8 @@ use Rattle.image_table.specs.declared.placed_image.PlacedImage.{PlacedImage}
 use Rattle.mm_base.specs.Platform.{mmram}
 use Rattle.mm_base.specs.Range.{Has, encloses}
 use Rattle.mm_base.specs.Regions.{communicate_page_of, pool_of, region_of, reserve_of, stack_of}
-use Rattle.mm_base.specs.Statuses.{unsupported}
 use Rattle.mm_base.specs.declared.access.Kind.TheVariants as kinds
 use Rattle.mm_base.specs.declared.access.Right.TheVariants as rights
-use Rattle.mm_base.specs.declared.access.Verdict.{Verdict}
 use Rattle.mm_base.specs.declared.cells.Saved.{Saved}
 use Rattle.mm_base.specs.declared.guid.Guid.{Guid}
 use Rattle.mm_base.specs.declared.handler.Handler.{Handler}
@@ -30,10 +28,10 @@ use Rattle.mm_base.specs.declared.handler.HandlerBody.{HandlerBody}
 use Rattle.mm_base.specs.declared.handler.HandlerBody.TheVariants.{Version, Stub, Code}
 use Rattle.mm_base.specs.declared.invocation.Ended.{Ended}
 use Rattle.mm_base.specs.declared.region.Region.{Region}
-use Rattle.mm_core.specs.CodeRun.{addresses, code_run, handed_back, left_by, message_in, opening_domain, page_place, with_message}
+use Rattle.mm_core.specs.CodeRun.{addresses, code_run, handed_back, left_by, page_place, with_message}
 use Rattle.mm_core.specs.CoreState.{Site}
-use Rattle.mm_core.specs.Invoked.{answered, by_body, code_invoked, invoked}
-use Rattle.mm_core.specs.Message.{Invoked, Message}
+use Rattle.mm_core.specs.Invoked.{by_body, code_invoked, invoked}
+use Rattle.mm_core.specs.Message.{Message}
 use Rattle.mmi_registry.specs.Registry.{RegistryState}
 use Rattle.secure_policy.specs.Laws.{passes}
 use Rattle.secure_policy.specs.Verdicts.{units_from}
@@ -188,7 +186,8 @@ module _ (group : Group) (site : Site) (placed : IsSite site.supervised) (facts 
         ap (left_by handler image.region message)
         (run_same mine
         ∙ ap (λ (s : Supervised). ((ran saved live).0, erased_at s (ran saved live).1)) site_stays)
-        ∙ ap (λ (m : Message). record (erased_run group site (left_by handler image.region message (ran saved live))) { message = m }) (handed_same mine handler.guid)
+        ∙ ap (λ (m : Message). record (erased_run group site (left_by handler image.region message (ran saved live))) { message = m })
+        (handed_same mine handler.guid)
 
     -- outside the group
     pub code_left : group number ≡ false → erased (left_by handler image.region message (ran saved live)).live ≡ erased live
@@ -204,12 +203,14 @@ module _ (group : Group) (site : Site) (placed : IsSite site.supervised) (facts 
 
   -- ---- a handler
 
-  abbrev whole_from : (live : Live) → IsReady live → (number : ℕ) (image : PlacedImage) → slice_get site.supervised.images number ≡ Some image → IsWhole live
+  abbrev whole_from : (live : Live) → IsReady live → (number : ℕ) (image : PlacedImage) → slice_get site.supervised.images number ≡ Some image
+      → IsWhole live
   whole_from live ready number image is = ready number image is
 
   module _ (saved : Saved) (handler : Handler) (message : Message) (live : Live) (ready : IsReady live) where
     pub handler_same : is_handler_of group handler ≡ true
-        → invoked site (projected_registers group site.supervised saved) handler message (erased live) ≡ erased_run group site (invoked site saved handler message live)
+        → invoked site (projected_registers group site.supervised saved) handler message (erased live)
+        ≡ erased_run group site (invoked site saved handler message live)
     unfolding invoked
     handler_same mine = of_body handler.body mine
       where

@@ -1,8 +1,8 @@
 -- A message in an image's communicate page, where the page's bytes are granted to a group, and where none is.
-use Rattle.std.proofs.Common.{◌≡◌, ℕ, ◌+◌, ◌*◌, ◌-◌, ◌≤◌, ◌<◌, Bool, true, false, min, List, [], ◌++◌, length, take, drop, refl, sym, ap, ◌∙◌, arith}
+use Rattle.std.proofs.Common.{◌≡◌, ℕ, ◌+◌, ◌≤◌, ◌<◌, Bool, true, false, min, List, ◌++◌, length, take, drop, refl, ap, ◌∙◌, arith}
 use Rattle.std.proofs.lemmas.List.{length-take}
 use Rattle.mm_base.specs.Frames.{zeros}
-use Rattle.mm_base.specs.Numbers.{bytes_of_word, number_in, number_of, overwritten}
+use Rattle.mm_base.specs.Numbers.{bytes_of_word, number_of, overwritten}
 use Rattle.mm_base.specs.declared.region.Region.{Region}
 use Rattle.mm_memory.proofs.PageLemmas.{length-overwritten, length-zeros}
 use Rattle.image_groups.proofs.MaskLemmas.{masked-overwritten_other, overwritten-masked, piece_at_same}
@@ -28,11 +28,13 @@ module _ (test : ℕ → Bool) (region : Region) (memory : List ℕ) (inside : p
 
   sized_long : (size : ℕ) → length (overwritten (overwritten memory page (zeros 4096)) page (bytes_of_word size)) ≡ length memory
   sized_long size =
-      length-overwritten (overwritten memory page (zeros 4096)) (bytes_of_word size) page (omega (arith, inside, blank_long, word_long size)) ∙ blank_long
+      length-overwritten (overwritten memory page (zeros 4096)) (bytes_of_word size) page (omega (arith, inside, blank_long, word_long size))
+      ∙ blank_long
 
   pub with_message-long : (message : Message) → length (with_message region message memory) ≡ length memory
   with_message-long message =
-      length-overwritten (overwritten (overwritten memory page (zeros 4096)) page (bytes_of_word message.size)) (take page_room message.buffer) (page + 8)
+      length-overwritten (overwritten (overwritten memory page (zeros 4096)) page (bytes_of_word message.size)) (take page_room message.buffer)
+      (page + 8)
       (omega (arith, inside, sized_long message.size, few_front message.buffer))
       ∙ sized_long message.size
 
@@ -47,14 +49,16 @@ module _ (test : ℕ → Bool) (region : Region) (memory : List ℕ) (inside : p
       (λ k from to. each k from (omega (arith, to, word_long message.size))) in
       ap (λ (m : List ℕ). overwritten (overwritten m page (bytes_of_word message.size)) (page + 8) (take page_room message.buffer)) first
       ∙ ap (λ (m : List ℕ). overwritten m (page + 8) (take page_room message.buffer)) second
-      ∙ overwritten-masked test (overwritten (overwritten memory page (zeros 4096)) page (bytes_of_word message.size)) (take page_room message.buffer) (page + 8)
+      ∙ overwritten-masked test (overwritten (overwritten memory page (zeros 4096)) page (bytes_of_word message.size))
+      (take page_room message.buffer) (page + 8)
       (omega (arith, inside, sized_long message.size))
       (λ k from to. each k (omega (arith, from)) (omega (arith, to, few_front message.buffer)))
 
   pub masked-with_message : ((k : ℕ) → page ≤ k → k < page + 4096 → test k ≡ false) → (message : Message)
       → masked 0 test (with_message region message memory) ≡ masked 0 test memory
   masked-with_message each message =
-      masked-overwritten_other test (overwritten (overwritten memory page (zeros 4096)) page (bytes_of_word message.size)) (take page_room message.buffer) (page + 8)
+      masked-overwritten_other test (overwritten (overwritten memory page (zeros 4096)) page (bytes_of_word message.size))
+      (take page_room message.buffer) (page + 8)
       (omega (arith, inside, sized_long message.size, few_front message.buffer))
       (λ k from to. each k (omega (arith, from)) (omega (arith, to, few_front message.buffer)))
       ∙ masked-overwritten_other test (overwritten memory page (zeros 4096)) (bytes_of_word message.size) page

@@ -1,23 +1,18 @@
 -- Lists of entries for a closed group: erasing and projecting once is enough, and the shares go along.
-use Rattle.std.proofs.Common.{◌≡◌, ℕ, ◌+◌, Bool, true, false, if◌then◌else◌, List, [], ◌∷◌, length, map, Some, refl, sym, ap, ◌∙◌, subst}
-use Rattle.std.specs.List.{slice_get}
+use Rattle.std.proofs.Common.{◌≡◌, ℕ, ◌+◌, Bool, true, false, if◌then◌else◌, List, [], ◌∷◌, map, refl, sym, ap, ◌∙◌, subst}
 use Rattle.image_groups.proofs.FactLemmas.{closed_groups_have_facts}
 use Rattle.image_groups.proofs.LiveLemmas.{erased_twice}
 use Rattle.image_groups.proofs.MaskLemmas.{length-masked, masked_same, masked_twice}
-use Rattle.image_groups.specs.Erasing.{erase, masked, projected_registers, trapped_in}
+use Rattle.image_groups.specs.Erasing.{erase, projected_registers, trapped_in}
 use Rattle.image_groups.specs.Groups.{Group, granted, is_register_granted}
 use Rattle.image_groups.specs.Laws.{Facts}
 use Rattle.image_groups.specs.RunLaws.{IsWhole}
-use Rattle.image_table.specs.declared.placed_image.PlacedImage.{PlacedImage}
-use Rattle.mm_base.specs.Replay.{outcomes, replayed}
+use Rattle.mm_base.specs.Replay.{outcomes}
 use Rattle.mm_base.specs.declared.access.Kind.TheVariants.{Memory, Io, Msr}
 use Rattle.mm_base.specs.declared.cells.Saved.{Saved}
-use Rattle.mm_base.specs.declared.entry.Entry.{Entry}
-use Rattle.mm_base.specs.declared.entry.Outcome.{Outcome}
 use Rattle.mm_base.specs.declared.entry.Request.{Request}
 use Rattle.mm_core.specs.CoreState.{CoreState, Site}
-use Rattle.mm_core.specs.EntryStep.{core_step, entry_step, shape_of}
-use Rattle.supervisor_calls.specs.Tables.{Live}
+use Rattle.mm_core.specs.EntryStep.{core_step, shape_of}
 use Rattle.mm_groups.specs.Closed.{IsClosedIn}
 use Rattle.mm_groups.specs.EntryLaws.{IsSound, ShareAlike, SharesStandAlone, shares_of}
 use Rattle.mm_groups.specs.Share.{Share, erased_core, is_addressed, projected, share_of}
@@ -36,7 +31,12 @@ module _ (group : Group) (site : Site) (facts : Facts group site.supervised) whe
   abbrev told : Bool → Request → Request
   told b request =
       if b
-      then record { lane = request.lane; length = request.length; bytes = request.bytes; saved = projected_registers group site.supervised request.saved }
+      then record {
+        lane = request.lane;
+        length = request.length;
+        bytes = request.bytes;
+        saved = projected_registers group site.supervised request.saved;
+      }
       else record { lane = 0; length = 0; bytes = []; saved = projected_registers group site.supervised request.saved }
 
   projected_twice : (request : Request) → projected group site (projected group site request) ≡ projected group site request
@@ -45,7 +45,8 @@ module _ (group : Group) (site : Site) (facts : Facts group site.supervised) whe
       by_address : (b : Bool) → is_addressed group site (shape_of site request) ≡ b → projected group site (told b request) ≡ told b request
       by_address true is =
           ap (λ (b : Bool). told b (told true request)) is
-          ∙ ap (λ (saved : Saved). record { lane = request.lane; length = request.length; bytes = request.bytes; saved = saved }) (registers_twice request.saved)
+          ∙ ap (λ (saved : Saved). record { lane = request.lane; length = request.length; bytes = request.bytes; saved = saved })
+          (registers_twice request.saved)
       by_address false is =
           ap (λ (saved : Saved). record { lane = 0; length = 0; bytes = []; saved = saved }) (registers_twice request.saved)
 
@@ -64,7 +65,8 @@ erased_sound group core sound = record {
         ports = length-masked 0 (λ k. granted group core.site.supervised Io k) core.live.platform.ports ∙ whole.cells.ports;
         device = length-masked 0 (λ k. granted group core.site.supervised Memory (0xfe000000 + k)) core.live.platform.device ∙ whole.cells.device;
         msrs = length-masked 0 (λ k. granted group core.site.supervised Msr k) core.live.platform.msrs ∙ whole.cells.msrs;
-        upper_msrs = length-masked 0 (λ k. granted group core.site.supervised Msr (0xc0000000 + k)) core.live.platform.upper_msrs ∙ whole.cells.upper_msrs;
+        upper_msrs =
+            length-masked 0 (λ k. granted group core.site.supervised Msr (0xc0000000 + k)) core.live.platform.upper_msrs ∙ whole.cells.upper_msrs;
       };
     }
 
@@ -84,7 +86,8 @@ module _ (group : Group) (site : Site) where
   go_along (request ∷ requests) core other is sound whole closed same =
       let here : IsClosedIn group core.site = subst (λ s. IsClosedIn group s) (sym is) closed in
       let facts = closed_groups_have_facts group core.site.supervised core.site.handlers sound.placed here in
-      let twice : projected group core.site request ≡ projected group core.site (projected group core.site request) = sym (projected_twice group core.site facts request) in
+      let twice : projected group core.site request
+      ≡ projected group core.site (projected group core.site request) = sym (projected_twice group core.site facts request) in
       let asked : projected group core.site request ≡ projected group core.site (projected group site request) =
       subst (λ s. projected group core.site request ≡ projected group core.site (projected group s request)) is twice in
       let alike : ShareAlike group core other request (projected group site request) =

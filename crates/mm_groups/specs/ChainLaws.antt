@@ -1,5 +1,5 @@
 -- Laws of the chains of handlers of an entry, and of its root pass, for a closed group.
-use Rattle.std.specs.Prelude.{◌≡◌, Bool, true, false, List, [], map, Some, None}
+use Rattle.std.specs.Prelude.{◌≡◌, true, false, List, [], map, Some, None}
 use Rattle.image_groups.specs.Erasing.{erase, projected_registers}
 use Rattle.image_groups.specs.Groups.{Group}
 use Rattle.mm_base.specs.declared.cells.Saved.{Saved}
@@ -8,8 +8,8 @@ use Rattle.mm_core.specs.CoreState.{CoreState, Site}
 use Rattle.mm_core.specs.HandlerChain.{invocations_of, live_after, runs_of, through_stop}
 use Rattle.mm_core.specs.Message.{Invoked, Message, no_message}
 use Rattle.mmi_registry.specs.Handlers.{chain_of}
-use Rattle.supervisor_calls.specs.Tables.{Live}
-use Rattle.mm_groups.specs.EntryLaws.{IsClosedIn, IsSound}
+use Rattle.mm_groups.specs.Closed.{IsClosedIn}
+use Rattle.mm_groups.specs.EntryLaws.{IsSound}
 use Rattle.mm_groups.specs.Share.{erased_core, is_served_by, own_invocations}
 
 -- what the handlers of a GUID leave of a message, one after another, up to the one that stops the chain

@@ -1,6 +1,5 @@
 -- Laws of entries for a closed group, of one and of lists.
 use Rattle.std.specs.Prelude.{◌≡◌, ℕ, List, map, Some, slice_get}
-use Rattle.image_groups.specs.Erasing.{erase}
 use Rattle.image_groups.specs.Groups.{Group}
 use Rattle.image_groups.specs.RunLaws.{IsWhole}
 use Rattle.image_table.specs.declared.placed_image.PlacedImage.{PlacedImage}
@@ -11,7 +10,6 @@ use Rattle.mm_core.specs.CoreState.{CoreState, Site}
 use Rattle.mm_core.specs.EntryStep.{core_step}
 use Rattle.mmi_registry.specs.Registry.{IsNumbered}
 use Rattle.supervisor_calls.specs.Laws.{IsSite}
-use Rattle.supervisor_calls.specs.Tables.{Live}
 use Rattle.mm_groups.specs.Closed.{IsClosedIn}
 use Rattle.mm_groups.specs.Share.{Share, erased_core, projected, share_of}
 

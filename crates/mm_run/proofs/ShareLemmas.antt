@@ -59,7 +59,7 @@ boot_sound bytes files cells boot is =
     let sound : IsSound (core_of_tables tables) = record {
       placed = is.booted.orderly.placed;
       numbered = is.booted.orderly.numbered;
-      whole = λ number image there. record { memory = is.booted.orderly.memory; cells = is.cells };
+      whole = λ number image there. record { memory = is.booted.orderly.memory; cells = is.all_cells };
     } in
     subst IsSound (sym (ap (λ (b : BootValue). b.core) is.leaves)) sound
 
