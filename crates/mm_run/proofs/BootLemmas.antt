@@ -54,5 +54,5 @@ refused_known bytes files policy is end_of has (Err status) told = told ∙ know
 pub flags_beside : (core : CoreState) (locked : Locked) (closed : List Bool) → locked ≡ locked_in core → AreAloneClosed core.site closed
     → length closed ≡ length locked.names
 flags_beside core locked closed locked_is closed_are =
-    closed_are.count ∙ sym (length-map (λ (image : PlacedImage). image.name) core.site.supervised.images)
+    closed_are.count ∙ sym (length-map core.site.supervised.images (λ (image : PlacedImage). image.name))
     ∙ sym (ap (λ (l : Locked). length l.names) locked_is)
